@@ -1,0 +1,5 @@
+pub mod Order
+pub mod Same
+pub mod Forest
+pub mod Put
+pub mod Value
