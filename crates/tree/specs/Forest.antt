@@ -1,7 +1,7 @@
 -- Trees. A forest is a folder's entries: the first entry, and its later siblings. A node is what stands at one place.
 use mathlib.Core.Path.{_≡_}
 use mathlib.Core.List.{List, [], _∷_}
-use Prim.Native.Nat.{ℕ, Ordering·lt}
+use Prim.Native.Nat.{ℕ, suc, _+_, Ordering·lt}
 use Rattle.tree.specs.Name.{Name, cmp, ifSame}
 
 -- a file's row but for depth and name: words 1 and 10 to 19
@@ -44,6 +44,12 @@ abbrev pub add : Name → Node → Forest → Forest
 add n absent s = s
 add n (file c) s = leaf n c s
 add n (folder k) s = dir n k s
+
+-- the entries at every depth
+unfoldable pub size : Forest → ℕ
+size end = 0
+size (leaf n c s) = suc (size s)
+size (dir n k s) = suc (size k + size s)
 
 -- every sibling's name comes after n
 unfoldable pub Above : Name → Forest → Type 0

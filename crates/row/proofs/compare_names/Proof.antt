@@ -1,0 +1,36 @@
+use mathlib.Core.Path.{_∙_, ap₂}
+use mathlib.Core.List.{List}
+use Prim.Native.Nat.{ℕ}
+use borrow.Author.Needs.{needs}
+use Rattle.tree.specs.Name.{cmp}
+use Rattle.row.specs.Order.{ordered}
+use Rattle.row.proofs.Table.{name-part}
+use Rattle.row.proofs.compare_names.Statement.{statement}
+use Rattle.row.proofs.compare_names.Tie as tie
+
+-- src/lib.rt:43:1
+returns : tie.Need-returns
+returns c =
+    let s = c .before .before .before .before .before in
+    c .compare-words .ensures ∙ ap₂ (λ (x y : List ℕ). ordered (cmp x y)) (name-part (s .args .a .now) (s .args .i)) (name-part (s .args .b .now) (s .args .j))
+
+pub compare-names-spec : {M : Type 1} → statement M
+compare-names-spec =
+    tie.close
+    (tie.spec
+    (λ c. search needs)
+    (λ c. search needs)
+    (λ c. search needs)
+    (λ c. search needs)
+    (λ c. search needs)
+    (λ c. search needs)
+    (λ c. search needs)
+    (λ c. search needs)
+    (λ c. search needs)
+    (λ c. search needs)
+    (λ c. search needs)
+    (λ c. search needs)
+    (λ c. search needs)
+    (λ c. search needs)
+    (λ c κs. search needs)
+    returns)
