@@ -1,59 +1,73 @@
--- Where one side is as the archive, a result holds the other side.
+-- Where one side is as the archive, every result holds the other side.
+use mathlib.Core.Bool.{Bool, true, false}
 use mathlib.Core.List.{[], _∷_}
-use mathlib.Core.Path.{_∙_, _≡_, ap, refl}
-use Rattle.tree.specs.Forest.{Node, Node.absent, Node.file, Node.folder, TreePath, at, find}
-use Rattle.tree.specs.Value.{value}
-use Rattle.settle.specs.Decision.{decide}
+use mathlib.Core.Path.{_∙_, _≡_, ap, refl, sym}
+use Rattle.tree.specs.Name.{Name}
+use Rattle.tree.specs.Forest.{TreePath, Forest, Node, Node.folder, find, kids, at}
+use Rattle.tree.specs.Same.{sameNode}
+use Rattle.tree.specs.Value.{Value.isFolder, value}
+use Rattle.tree.proofs.Never.{never}
+use Rattle.tree.proofs.Same.{sameNode-refl, sameNode-eq}
+use Rattle.settle.specs.Decision.{rule, decide}
 use Rattle.settle.specs.Plan.{settle}
 use Rattle.settle.specs.Results.{Pick, below}
-use Rattle.settle.proofs.Induct.{NotBoth, settle-single}
-use Rattle.settle.proofs.Plan.{Void, new-find, newNode}
+use Rattle.settle.proofs.Plan.{newNode, new-find}
+use Rattle.settle.proofs.Induct.{NotBoth, settle-single, settle-ind}
+use Rattle.settle.proofs.Picks.{Settles, settles-below}
 
--- where left is as the archive, both get right's; where right is, both get left's
-abbrev pub GivesR : Pick → Type 0
-GivesR pk = (p : TreePath) (l r : Node) → pk p (decide l l r) l l r ≡ r
+-- the side that is as the archive, and the other one
+pub data Which : Type 0 where
+  leftIs rightIs : Which
 
-abbrev pub GivesL : Pick → Type 0
-GivesL pk = (p : TreePath) (l r : Node) → pk p (decide r l r) r l r ≡ l
+abbrev pub this : Which → Node → Node → Node
+this leftIs l r = l
+this rightIs l r = r
 
-gives-r-one : (pk : Pick) → GivesR pk → (q : TreePath) (l r : Node) → NotBoth l r → value (newNode pk (settle l l r)) q ≡ value r q
-gives-r-one pk g q l r nb = rw (settle-single l l r nb, g [] l r)
+abbrev pub other : Which → Node → Node → Node
+other leftIs l r = r
+other rightIs l r = l
 
-gives-r-top : (pk : Pick) → GivesR pk → (l r : Node) → value (newNode pk (settle l l r)) [] ≡ value r []
-unfolding value at settle
-gives-r-top pk g absent r = gives-r-one pk g [] absent r tt
-gives-r-top pk g (file c) r = gives-r-one pk g [] (file c) r tt
-gives-r-top pk g (folder l) absent = gives-r-one pk g [] (folder l) absent tt
-gives-r-top pk g (folder l) (file c) = gives-r-one pk g [] (folder l) (file c) tt
-gives-r-top pk g (folder l) (folder r) = refl
+decided : (w : Which) (pk : Pick) → Settles pk → (p : TreePath) (l r : Node) → pk p (decide (this w l r) l r) (this w l r) l r ≡ other w l r
+unfolding decide
+decided leftIs pk f p l r = go (sameNode l r) refl
+  where
+    go : (a : Bool) → sameNode l r ≡ a → pk p (rule a (sameNode l l) (sameNode r l)) l l r ≡ r
+    go true e = rw (sameNode-eq l r e) (f .agrees p r r)
+    go false e = rw (sameNode-refl l) (f .left p l l r)
+decided rightIs pk f p l r = go (sameNode l r) (sameNode l r) refl refl
+  where
+    go : (a b : Bool) → sameNode l r ≡ a → sameNode l r ≡ b → pk p (rule a b (sameNode r r)) r l r ≡ l
+    go true b e h = rw (sameNode-eq l r e) (f .agrees p r r)
+    go false true e h = never (cc)
+    go false false e h = rw (sameNode-refl r) (f .right p r l r)
 
-pub gives-r : (pk : Pick) → Void pk → GivesR pk → (q : TreePath) (l r : Node) → value (newNode pk (settle l l r)) q ≡ value r q
-unfolding value at settle
-gives-r pk v g [] l r = gives-r-top pk g l r
-gives-r pk v g (n ∷ q) absent r = gives-r-one pk g (n ∷ q) absent r tt
-gives-r pk v g (n ∷ q) (file c) r = gives-r-one pk g (n ∷ q) (file c) r tt
-gives-r pk v g (n ∷ q) (folder l) absent = gives-r-one pk g (n ∷ q) (folder l) absent tt
-gives-r pk v g (n ∷ q) (folder l) (file c) = gives-r-one pk g (n ∷ q) (folder l) (file c) tt
-gives-r pk v g (n ∷ q) (folder l) (folder r) =
-    ap (λ (x : Node). value x q) (new-find pk v l l r n) ∙ gives-r (below n pk) (λ p. v (n ∷ p)) (λ p. g (n ∷ p)) q (find n l) (find n r)
+this-find : (w : Which) (l r : Forest) (n : Name) → find n (kids (this w (folder l) (folder r))) ≡ this w (find n l) (find n r)
+this-find leftIs l r n = refl
+this-find rightIs l r n = refl
 
-gives-l-one : (pk : Pick) → GivesL pk → (q : TreePath) (l r : Node) → NotBoth l r → value (newNode pk (settle r l r)) q ≡ value l q
-gives-l-one pk g q l r nb = rw (settle-single r l r nb, g [] l r)
+other-folder : (w : Which) (l r : Forest) → value (other w (folder l) (folder r)) [] ≡ isFolder
+unfolding value at
+other-folder leftIs l r = refl
+other-folder rightIs l r = refl
 
-gives-l-top : (pk : Pick) → GivesL pk → (l r : Node) → value (newNode pk (settle r l r)) [] ≡ value l []
-unfolding value at settle
-gives-l-top pk g absent r = gives-l-one pk g [] absent r tt
-gives-l-top pk g (file c) r = gives-l-one pk g [] (file c) r tt
-gives-l-top pk g (folder l) absent = gives-l-one pk g [] (folder l) absent tt
-gives-l-top pk g (folder l) (file c) = gives-l-one pk g [] (folder l) (file c) tt
-gives-l-top pk g (folder l) (folder r) = refl
+other-find : (w : Which) (l r : Forest) (n : Name) (q : TreePath) → value (other w (folder l) (folder r)) (n ∷ q) ≡ value (other w (find n l) (find n r)) q
+unfolding value at
+other-find leftIs l r n q = refl
+other-find rightIs l r n q = refl
 
-pub gives-l : (pk : Pick) → Void pk → GivesL pk → (q : TreePath) (l r : Node) → value (newNode pk (settle r l r)) q ≡ value l q
-unfolding value at settle
-gives-l pk v g [] l r = gives-l-top pk g l r
-gives-l pk v g (n ∷ q) absent r = gives-l-one pk g (n ∷ q) absent r tt
-gives-l pk v g (n ∷ q) (file c) r = gives-l-one pk g (n ∷ q) (file c) r tt
-gives-l pk v g (n ∷ q) (folder l) absent = gives-l-one pk g (n ∷ q) (folder l) absent tt
-gives-l pk v g (n ∷ q) (folder l) (file c) = gives-l-one pk g (n ∷ q) (folder l) (file c) tt
-gives-l pk v g (n ∷ q) (folder l) (folder r) =
-    ap (λ (x : Node). value x q) (new-find pk v r l r n) ∙ gives-l (below n pk) (λ p. v (n ∷ p)) (λ p. g (n ∷ p)) q (find n l) (find n r)
+abbrev Gives : Which → Node → Node → Node → Type 0
+Gives w o l r = o ≡ this w l r → (pk : Pick) → Settles pk → (q : TreePath) → value (newNode pk (settle o l r)) q ≡ value (other w l r) q
+
+gives-single : (w : Which) (o l r : Node) → NotBoth l r → Gives w o l r
+gives-single w o l r nb e pk f q = rw (settle-single o l r nb, e, decided w pk f [] l r)
+
+gives-pair : (w : Which) (o : Node) (l r : Forest) → ((n : Name) → Gives w (find n (kids o)) (find n l) (find n r)) → Gives w o (folder l) (folder r)
+unfolding settle value at
+gives-pair w o l r ih e pk f [] = sym (other-folder w l r)
+gives-pair w o l r ih e pk f (n ∷ q) =
+    ap (λ (x : Node). value x q) (new-find pk (f .agrees) (kids o) l r n)
+    ∙ ih n (ap (λ (x : Node). find n (kids x)) e ∙ this-find w l r n) (below n pk) (settles-below n pk f) q
+    ∙ sym (other-find w l r n q)
+
+pub gives : (w : Which) (l r : Node) (pk : Pick) → Settles pk → (q : TreePath) → value (newNode pk (settle (this w l r) l r)) q ≡ value (other w l r) q
+gives w l r = settle-ind (Gives w) (gives-single w) (gives-pair w) (this w l r) l r refl

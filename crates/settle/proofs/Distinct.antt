@@ -2,12 +2,12 @@
 use mathlib.Core.Bool.{false}
 use mathlib.Core.List.{[], _++_, _∷_, map}
 use mathlib.Core.Path.{_≡_}
-use native.Mathlib.Omega.{arith}
-use Prim.Native.Nat.{Ordering·lt, ℕ}
+use Prim.Native.Nat.{Ordering·lt}
 use Rattle.tree.specs.Forest.{Forest, Node, Node.folder, TreePath, find, kids}
 use Rattle.tree.specs.Name.{Name, cmp}
 use Rattle.tree.specs.Same.{sameWords}
-use Rattle.tree.proofs.Order.{cmp-eq, cmp-refl}
+use Rattle.tree.proofs.Never.{never}
+use Rattle.tree.proofs.Order.{cmp-refl}
 use Rattle.tree.proofs.Same.{sameWords-false, sameWords-refl}
 use Rattle.settle.specs.Decision.{Decision, Decision.agreed, Decision.clash, Decision.leftGets, Decision.rightGets, decide}
 use Rattle.settle.specs.Names.{Names, names}
@@ -43,7 +43,7 @@ uniq-under n [] u = tt
 uniq-under n (line p d ∷ xs) u = (fresh-under n p xs (u .0), uniq-under n xs (u .1))
 
 apart : (n m : Name) → cmp n m ≡ Ordering·lt → sameWords n m ≡ false
-apart n m e = sameWords-false n m (λ h. let q = cmp-eq m n h in let t = cmp-refl n in let z : _≡_ {A = ℕ} 0 1 = cc in omega arith)
+apart n m e = sameWords-false n m (λ h. let t = cmp-refl n in never (cc))
 
 fresh-gather : (n : Name) (p : TreePath) (ns : Names) (g : Name → Lines) → Over n ns → Fresh (n ∷ p) (gather ns (λ m. map (under m) (g m)))
 unfolding gather Over Fresh

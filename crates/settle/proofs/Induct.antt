@@ -1,16 +1,14 @@
--- Induction over settling: an entry that is no folder on both sides, or a folder pair from all its names.
+-- Induction over settling: what holds of entries that are not folders on both sides, and of a folder pair where it holds
+-- at all its names, holds everywhere.
 use mathlib.Core.Path.{_≡_, refl}
 use Prim.Native.Nat.{Ordering, Ordering·eq, Ordering·gt, Ordering·lt}
-use Rattle.tree.specs.Forest.{Forest, Forest.dir, Forest.end, Forest.leaf, Node, Node.absent, Node.file, Node.folder, find, kids}
 use Rattle.tree.specs.Name.{Name, cmp, ifSame}
-use Rattle.settle.specs.Plan.{Entry.pair, Entry.single, settle}
+use Rattle.tree.specs.Forest.{Forest, Forest.end, Forest.leaf, Forest.dir, Node, Node.absent, Node.file, Node.folder, find, kids}
+use Rattle.tree.proofs.Never.{never}
+use Rattle.settle.specs.Plan.{Entry.single, settle}
 
 abbrev pub NotBoth : Node → Node → Type 0
-NotBoth absent r = Unit {0}
-NotBoth (file c) r = Unit {0}
-NotBoth (folder f) absent = Unit {0}
-NotBoth (folder f) (file c) = Unit {0}
-NotBoth (folder f) (folder g) = ⊥
+NotBoth l r = (f g : Forest) → l ≡ folder f → r ≡ folder g → ⊥
 
 pub settle-single : (o l r : Node) → NotBoth l r → settle o l r ≡ single o l r
 unfolding settle
@@ -18,23 +16,23 @@ settle-single o absent r h = refl
 settle-single o (file c) r h = refl
 settle-single o (folder f) absent h = refl
 settle-single o (folder f) (file c) h = refl
-settle-single o (folder f) (folder g) h = absurd h
+settle-single o (folder f) (folder g) h = absurd (h f g refl refl)
 
-module _ (P : Node → Node → Node → Type 0) (single : (o l r : Node) → NotBoth l r → P o l r)
-    (pair : (o : Node) (l r : Forest) → ((n : Name) → P (find n (kids o)) (find n l) (find n r)) → P o (folder l) (folder r)) where
+module _ (P : Node → Node → Node → Type 0) (one : (o l r : Node) → NotBoth l r → P o l r)
+    (two : (o : Node) (l r : Forest) → ((n : Name) → P (find n (kids o)) (find n l) (find n r)) → P o (folder l) (folder r)) where
   at-folder : (o r : Node) (l : Forest) → ((n : Name) (o r : Node) → P o (find n l) r) → P o (folder l) r
-  at-folder o absent l ih = single o (folder l) absent tt
-  at-folder o (file c) l ih = single o (folder l) (file c) tt
-  at-folder o (folder r) l ih = pair o l r (λ n. ih n (find n (kids o)) (find n r))
+  at-folder o absent l ih = one o (folder l) absent (λ f g e h. never (cc))
+  at-folder o (file c) l ih = one o (folder l) (file c) (λ f g e h. never (cc))
+  at-folder o (folder r) l ih = two o l r (λ n. ih n (find n (kids o)) (find n r))
 
   at-forest : (l : Forest) (n : Name) (o r : Node) → P o (find n l) r
   unfolding find
-  at-forest end n o r = single o absent r tt
+  at-forest end n o r = one o absent r (λ f g e h. never (cc))
   at-forest (leaf m c s) n o r = go (cmp n m) (at-forest s n o r)
     where
       go : (w : Ordering) → P o (find n s) r → P o (ifSame w (file c) (find n s)) r
       go Ordering·lt h = h
-      go Ordering·eq h = single o (file c) r tt
+      go Ordering·eq h = one o (file c) r (λ f g e h. never (cc))
       go Ordering·gt h = h
   at-forest (dir m k s) n o r = go (cmp n m) (at-forest s n o r) (at-folder o r k (at-forest k))
     where
@@ -44,6 +42,6 @@ module _ (P : Node → Node → Node → Type 0) (single : (o l r : Node) → No
       go Ordering·gt h j = h
 
   pub settle-ind : (o l r : Node) → P o l r
-  settle-ind o absent r = single o absent r tt
-  settle-ind o (file c) r = single o (file c) r tt
+  settle-ind o absent r = one o absent r (λ f g e h. never (cc))
+  settle-ind o (file c) r = one o (file c) r (λ f g e h. never (cc))
   settle-ind o (folder l) r = at-folder o r l (at-forest l)

@@ -1,3 +1,6 @@
+-- The promises on trees (Cases, Tr507, Archive, Resume, Close, Distinct, Rules), and the laws that they rest on.
+pub mod Cases
+pub mod Outcome
 pub mod Names
 pub mod Plan
 pub mod Induct
@@ -9,12 +12,11 @@ pub mod Target
 pub mod Tr507
 pub mod Archive
 pub mod Lines
-pub mod Outcome
 pub mod Mirror
+pub mod Listed
 pub mod Step
 pub mod Move
 pub mod Resume
 pub mod Close
 pub mod Distinct
 pub mod Rules
-pub mod Cases

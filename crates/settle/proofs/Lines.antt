@@ -13,7 +13,7 @@ use Rattle.settle.specs.Plan.{Entry, Entry.pair, Entry.single, addItem, 
 use Rattle.settle.specs.Results.{Line, Lines, lineOf, list, under}
 use Rattle.settle.specs.Resume.{keep, keepIf}
 use Rattle.settle.proofs.Induct.{NotBoth, settle-ind, settle-single}
-use Rattle.settle.proofs.Names.{Asc, asc-ext, asc-ins, asc-names, has, has-ins, has-over}
+use Rattle.settle.proofs.Names.{Asc, asc-ext, asc-insert, asc-names, has, has-insert, has-over}
 use Rattle.settle.proofs.Plan.{nowhere, or-false, settleIn-settle}
 use Rattle.settle.proofs.Sorted.{decide-same}
 
@@ -61,10 +61,10 @@ or-comm false true = refl
 or-comm false false = refl
 
 -- a name with no lines may be left out or put in
-gather-ins : (m : Name) (ns : Names) (g : Name → Lines) → Asc ns → (has m ns ≡ false → g m ≡ []) → gather (insert m ns) g ≡ gather ns g
+gather-insert : (m : Name) (ns : Names) (g : Name → Lines) → Asc ns → (has m ns ≡ false → g m ≡ []) → gather (insert m ns) g ≡ gather ns g
 unfolding gather insert has Asc
-gather-ins m [] g a v = rw (v refl)
-gather-ins m (n ∷ ns) g a v = go (cmp m n) refl v (gather-ins m ns g (a .1))
+gather-insert m [] g a v = rw (v refl)
+gather-insert m (n ∷ ns) g a v = go (cmp m n) refl v (gather-insert m ns g (a .1))
   where
     go : (w : Ordering) → cmp m n ≡ w → ((isEq w || has m ns) ≡ false → g m ≡ []) → ((has m ns ≡ false → g m ≡ []) → gather (insert m ns) g ≡ gather ns g)
         → gather (byOrder w (m ∷ (n ∷ ns)) (n ∷ ns) (n ∷ insert m ns)) g ≡ g n ++ gather ns g
@@ -79,12 +79,12 @@ insAll (m ∷ ms) us = insert m (insAll ms us)
 asc-insAll : (ms us : Names) → Asc us → Asc (insAll ms us)
 unfolding insAll
 asc-insAll [] us a = a
-asc-insAll (m ∷ ms) us a = asc-ins m (insAll ms us) (asc-insAll ms us a)
+asc-insAll (m ∷ ms) us a = asc-insert m (insAll ms us) (asc-insAll ms us a)
 
 has-insAll : (k : Name) (ms us : Names) → has k (insAll ms us) ≡ (has k ms || has k us)
 unfolding insAll has
 has-insAll k [] us = refl
-has-insAll k (m ∷ ms) us = has-ins k m (insAll ms us) ∙ rw (has-insAll k ms us) (assoc (isEq (cmp k m)) (has k ms) (has k us))
+has-insAll k (m ∷ ms) us = has-insert k m (insAll ms us) ∙ rw (has-insAll k ms us) (assoc (isEq (cmp k m)) (has k ms) (has k us))
   where
     assoc : (a b c : Bool) → (a || (b || c)) ≡ ((a || b) || c)
     assoc true b c = refl
@@ -94,7 +94,7 @@ gather-insAll : (ms us : Names) (g : Name → Lines) → Asc us → ((k : Name) 
 unfolding insAll
 gather-insAll [] us g a v = refl
 gather-insAll (m ∷ ms) us g a v =
-    gather-ins m (insAll ms us) g (asc-insAll ms us a) (λ e. v m (or-false (has m ms) (has m us) (sym (has-insAll m ms us) ∙ e) .1)) ∙ gather-insAll ms us g a v
+    gather-insert m (insAll ms us) g (asc-insAll ms us a) (λ e. v m (or-false (has m ms) (has m us) (sym (has-insAll m ms us) ∙ e) .1)) ∙ gather-insAll ms us g a v
 
 pub gather-ext : (ns ms : Names) (g : Name → Lines) → Asc ns → Asc ms → ((k : Name) → has k ns ≡ false → g k ≡ []) → ((k : Name) → has k ms ≡ false → g k ≡ [])
     → gather ns g ≡ gather ms g
@@ -104,7 +104,7 @@ gather-ext ns ms g a b v w =
     (λ k. has-insAll k ms ns ∙ or-comm (has k ms) (has k ns) ∙ sym (has-insAll k ns ms)))
     ∙ gather-insAll ns ms g b w
 
--- single run's list from another's, by a map that respects joining: compare them name by name
+-- one run's list from another's, by a map that respects joining: compare them name by name
 gather-hom : (F : Lines → Lines) → F [] ≡ [] → ((a b : Lines) → F (a ++ b) ≡ F a ++ F b) → (ns : Names) (g : Name → Lines) → gather ns (λ n. F (g n)) ≡ F (gather ns g)
 unfolding gather
 gather-hom F z m [] g = sym z

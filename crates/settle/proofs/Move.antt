@@ -9,18 +9,20 @@ use Rattle.settle.specs.Decision.{Decision, Decision.agreed, Decision.le
 use Rattle.settle.specs.Plan.{plan, settle}
 use Rattle.settle.specs.Results.{toLeft, toRight, toArchive, newLeft, newRight, newArchive, Line.line, Lines, list, Outcome, outcome}
 use Rattle.settle.specs.Resume.{moved, In, keepIf, keep, samePath, withLines}
-use Rattle.settle.proofs.Picks.{finalL, finalR, finalA}
+use Rattle.settle.proofs.Picks.{Result.left, Result.right, Result.archive, settles}
 use Rattle.settle.proofs.Outcome.{outcome-ext, un-folder}
 use Rattle.settle.proofs.Mirror.{mirror, mirrorL, mirrorO, mirrored}
-use Rattle.settle.proofs.Step.{without, step, no-root}
+use Rattle.settle.proofs.Listed.{no-root, without}
+use Rattle.settle.proofs.Step.{step}
 
 pub move-left : (p : TreePath) (o l r : Forest) → Sorted o → Sorted l → Sorted r → In (line p leftGets) (list (plan o l r))
     → outcome o (moved p r l) r ≡ withLines (without p (list (plan o l r))) (outcome o l r)
 unfolding newLeft newRight newArchive settle put
 move-left [] o l r so sl sr h = no-root leftGets o l r h
 move-left (n ∷ p) o l r so sl sr h =
-    let s = step (n ∷ p) (folder o) (folder l) (folder r) so sl sr h in
-    outcome-ext _ _ (s .lines) (un-folder _ _ (s .trees toArchive finalA)) (un-folder _ _ (s .trees toLeft finalL)) (un-folder _ _ (s .trees toRight finalR))
+    let s = step (folder o) (folder l) (folder r) (n ∷ p) so sl sr h in
+    outcome-ext _ _ (s .lines) (un-folder _ _ (s .trees toArchive (settles archive))) (un-folder _ _ (s .trees toLeft (settles left)))
+    (un-folder _ _ (s .trees toRight (settles right)))
 
 in-mirror : (p : TreePath) (xs : Lines) → In (line p rightGets) xs → In (line p leftGets) (map mirrorL xs)
 unfolding In

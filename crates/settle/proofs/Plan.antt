@@ -12,6 +12,7 @@ use Rattle.settle.specs.Plan.{Entry, Entry.pair, Entry.single, Plan, add
 use Rattle.settle.specs.Results.{Pick, below, new}
 use Rattle.settle.proofs.Names.{asc-names, build, find-build, has, has-names, present}
 
+-- the entry called n is settled as document 01 has it
 pub settleIn-settle : (l : Forest) (n : Name) (o r : Node) → settleIn l n o r ≡ settle o (find n l) r
 unfolding settleIn settle find plan
 settleIn-settle end n o r = refl
@@ -40,18 +41,18 @@ abbrev pub newNode : Pick → Entry → Node
 newNode pk (single o l r) = pk [] (decide o l r) o l r
 newNode pk (pair k) = folder (new pk k)
 
--- pointwise
+-- a new tree is built over the names
 pub new-build : (pk : Pick) (ns : Names) (g : Name → Entry) → new pk (planOver ns g) ≡ build ns (λ n. newNode (below n pk) (g n))
 unfolding new planOver build
 new-build pk [] g = refl
 new-build pk (n ∷ ns) g = go (g n) (new-build pk ns g)
   where
-    go : (x : Entry) → new pk (planOver ns g) ≡ build ns (λ m. newNode (below m pk) (g m)) → new pk (addItem n x (planOver ns g)) ≡ add n (newNode (below n pk) x) (build ns (λ m. newNode (below m pk) (g m)))
+    rest : Forest
+    rest = build ns (λ m. newNode (below m pk) (g m))
+
+    go : (x : Entry) → new pk (planOver ns g) ≡ rest → new pk (addItem n x (planOver ns g)) ≡ add n (newNode (below n pk) x) rest
     go (single o l r) e = rw e
     go (pair k) e = rw e
-
-abbrev pub Void : Pick → Type 0
-Void pk = (p : TreePath) → pk p agreed absent absent absent ≡ absent
 
 pub or-false : (a b : Bool) → (a || b) ≡ false → (a ≡ false) × (b ≡ false)
 or-false true b e = (e, cc)
@@ -69,8 +70,13 @@ nowhere k o l r e =
     let c = or-false (present (find k r)) false (b .1) in
     (not-present (find k o) (a .0), not-present (find k l) (b .0), not-present (find k r) (c .0))
 
--- the single equation that all else rests on: the new tree at a name
-pub new-find : (pk : Pick) → Void pk → (o l r : Forest) (n : Name) → find n (new pk (plan o l r)) ≡ newNode (below n pk) (settle (find n o) (find n l) (find n r))
+-- what both sides hold is what a result takes
+abbrev pub Agrees : Pick → Type 0
+Agrees pk = (p : TreePath) (o x : Node) → pk p agreed o x x ≡ x
+
+-- the equation that all else rests on: the new tree at a name
+pub new-find : (pk : Pick) → Agrees pk → (o l r : Forest) (n : Name)
+    → find n (new pk (plan o l r)) ≡ newNode (below n pk) (settle (find n o) (find n l) (find n r))
 unfolding plan settle decide sameNode
 new-find pk v o l r n =
     ap (find n) (new-build pk (names o l r) (λ m. settleIn l m (find m o) (find m r)))
@@ -78,4 +84,4 @@ new-find pk v o l r n =
     ∙ rw (settleIn-settle l n (find n o) (find n r))
   where
     gone : has n (names o l r) ≡ false → newNode (below n pk) (settleIn l n (find n o) (find n r)) ≡ absent
-    gone e = let h = nowhere n o l r e in rw (settleIn-settle l n (find n o) (find n r), h .0, h .1, h .2) (v (n ∷ []))
+    gone e = let h = nowhere n o l r e in rw (settleIn-settle l n (find n o) (find n r), h .0, h .1, h .2) (v (n ∷ []) absent absent)

@@ -12,7 +12,7 @@ use Rattle.settle.specs.Decision.{Decision.agreed, Decision.leftGets, De
 use Rattle.settle.specs.Plan.{plan}
 use Rattle.settle.specs.Results.{Line, Line.line, Lines, list, Outcome, outcome}
 use Rattle.settle.specs.Resume.{moved, after, In, keepIf, keep, elsewhere, minus, Fresh, Chosen, withLines, Resumes}
-use Rattle.settle.proofs.Step.{without}
+use Rattle.settle.proofs.Listed.{without}
 use Rattle.settle.proofs.Move.{move-left, move-right}
 
 in-keep : (f : Line → Bool) (x : Line) (xs : Lines) → f x ≡ true → In x xs → In x (keep f xs)

@@ -1,5 +1,9 @@
+-- Laws of names, forests, paths and moves.
+pub mod Never
 pub mod Order
 pub mod Same
 pub mod Forest
 pub mod Put
 pub mod Value
+pub mod Filesystem
+pub mod Rules

@@ -1,94 +1,111 @@
--- An entry changed: what is found then, and that the order stays.
+-- A subtree put at a path: what stands there then, what stands elsewhere, and that the order stays.
+use mathlib.Core.Path.{_≡_, refl, ap, _∙_, sym}
 use mathlib.Core.List.{[], _∷_}
-use mathlib.Core.Path.{_∙_, _≡_, ap, refl, sym}
-use Prim.Native.Nat.{Ordering, Ordering·eq, Ordering·gt, Ordering·lt}
-use Rattle.tree.specs.Forest.{Above, Forest, Forest.dir, Forest.end, Forest.leaf, Node, Node.absent, Node.file, Node.folder, Sorted, SortedNode, TreePath, add, at, find}
-use Rattle.tree.specs.Name.{Name, byOrder, cmp, ifSame}
-use Rattle.tree.specs.Put.{put, update}
-use Rattle.tree.proofs.Forest.{above-add, above-trans, find-above, find-add-gt, find-add-lt, find-add-same, sorted-add, sorted-find}
-use Rattle.tree.proofs.Order.{cmp-eq, cmp-flip, flip}
+use Prim.Native.Nat.{Ordering, Ordering·lt, Ordering·eq, Ordering·gt}
+use Rattle.tree.specs.Name.{Name, cmp, byOrder, ifSame}
+use Rattle.tree.specs.Forest.{TreePath, Forest, Forest.end, Node, Node.absent, Node.file, Node.folder, find, at, add, Above, Sorted, SortedNode}
+use Rattle.tree.specs.Put.{update, put}
+use Rattle.tree.proofs.Never.{never}
+use Rattle.tree.proofs.Order.{flip, cmp-eq, cmp-flip}
+use Rattle.tree.proofs.Forest.{Present, siblings-ind, find-add, above-parts, above-add, sorted-parts, sorted-add, above-trans, find-above, find-add-same, Differ, find-add-other, sorted-find}
 
-above-update : (k n : Name) (x : Node) (f : Forest) → cmp k n ≡ Ordering·lt → Above k f → Above k (update n x f)
-unfolding update Above
-above-update k n x end e h = above-add k n x end e tt
-above-update k n x (leaf m c s) e h = go (cmp n m) (above-update k n x s e (h .1))
-  where
-    go : (w : Ordering) → Above k (update n x s) → Above k (byOrder w (add n x (leaf m c s)) (add n x s) (leaf m c (update n x s)))
-    go Ordering·lt r = above-add k n x (leaf m c s) e h
-    go Ordering·eq r = above-add k n x s e (h .1)
-    go Ordering·gt r = (h .0, r)
-above-update k n x (dir m j s) e h = go (cmp n m) (above-update k n x s e (h .1))
-  where
-    go : (w : Ordering) → Above k (update n x s) → Above k (byOrder w (add n x (dir m j s)) (add n x s) (dir m j (update n x s)))
-    go Ordering·lt r = above-add k n x (dir m j s) e h
-    go Ordering·eq r = above-add k n x s e (h .1)
-    go Ordering·gt r = (h .0, r)
+pub update-add : (n m : Name) (x y : Node) (s : Forest) → Present y
+    → update n x (add m y s) ≡ byOrder (cmp n m) (add n x (add m y s)) (add n x s) (add m y (update n x s))
+unfolding update
+update-add n m x absent s h = absurd h
+update-add n m x (file c) s h = refl
+update-add n m x (folder k) s h = refl
 
-flip-lt : (n m : Name) → cmp n m ≡ Ordering·gt → cmp m n ≡ Ordering·lt
-flip-lt n m e = cmp-flip n m ∙ ap flip e
+module _ (n : Name) (x : Node) where
+  above-update : (k : Name) → cmp k n ≡ Ordering·lt → (f : Forest) → Above k f → Above k (update n x f)
+  unfolding update
+  above-update k e = siblings-ind (λ (f : Forest). Above k f → Above k (update n x f)) (λ a. above-add k n x end e a) more
+    where
+      more : (m : Name) (y : Node) (s : Forest) → Present y → (Above k s → Above k (update n x s)) → Above k (add m y s) → Above k (update n x (add m y s))
+      more m y s h ih a = rw (update-add n m x y s h) (go (cmp n m) (above-parts k m y s h a))
+        where
+          go : (w : Ordering) → (cmp k m ≡ Ordering·lt) × Above k s → Above k (byOrder w (add n x (add m y s)) (add n x s) (add m y (update n x s)))
+          go Ordering·lt p = above-add k n x (add m y s) e a
+          go Ordering·eq p = above-add k n x s e (p .1)
+          go Ordering·gt p = above-add k m y (update n x s) (p .0) (ih (p .1))
 
-pub sorted-update : (n : Name) (x : Node) (f : Forest) → SortedNode x → Sorted f → Sorted (update n x f)
-unfolding update Sorted Above
-sorted-update n x end sx sf = sorted-add n x end tt sx tt
-sorted-update n x (leaf m c s) sx sf = go (cmp n m) refl (sorted-update n x s sx (sf .1))
-  where
-    go : (w : Ordering) → cmp n m ≡ w → Sorted (update n x s) → Sorted (byOrder w (add n x (leaf m c s)) (add n x s) (leaf m c (update n x s)))
-    go Ordering·lt e r = sorted-add n x (leaf m c s) (e, above-trans n m s e (sf .0)) sx sf
-    go Ordering·eq e r = sorted-add n x s (rw (cmp-eq n m e) (sf .0)) sx (sf .1)
-    go Ordering·gt e r = (above-update m n x s (flip-lt n m e) (sf .0), r)
-sorted-update n x (dir m j s) sx sf = go (cmp n m) refl (sorted-update n x s sx (sf .2))
-  where
-    go : (w : Ordering) → cmp n m ≡ w → Sorted (update n x s) → Sorted (byOrder w (add n x (dir m j s)) (add n x s) (dir m j (update n x s)))
-    go Ordering·lt e r = sorted-add n x (dir m j s) (e, above-trans n m s e (sf .0)) sx sf
-    go Ordering·eq e r = sorted-add n x s (rw (cmp-eq n m e) (sf .0)) sx (sf .2)
-    go Ordering·gt e r = (above-update m n x s (flip-lt n m e) (sf .0), sf .1, r)
+  pub sorted-update : SortedNode x → (f : Forest) → Sorted f → Sorted (update n x f)
+  unfolding update Above Sorted
+  sorted-update sx = siblings-ind (λ (f : Forest). Sorted f → Sorted (update n x f)) (λ a. sorted-add n x end tt sx tt) more
+    where
+      more : (m : Name) (y : Node) (s : Forest) → Present y → (Sorted s → Sorted (update n x s)) → Sorted (add m y s) → Sorted (update n x (add m y s))
+      more m y s h ih a = rw (update-add n m x y s h) (go (cmp n m) refl (sorted-parts m y s h a))
+        where
+          go : (w : Ordering) → cmp n m ≡ w → Above m s × SortedNode y × Sorted s → Sorted (byOrder w (add n x (add m y s)) (add n x s) (add m y (update n x s)))
+          go Ordering·lt e p = sorted-add n x (add m y s) (above-add n m y s e (above-trans n m e s (p .0))) sx a
+          go Ordering·eq e p = sorted-add n x s (rw (cmp-eq n m e) (p .0)) sx (p .2)
+          go Ordering·gt e p = sorted-add m y (update n x s) (above-update m (cmp-flip n m ∙ ap flip e) s (p .0)) (p .1) (ih (p .2))
 
-pub find-update-same : (n : Name) (x : Node) (f : Forest) → Sorted f → find n (update n x f) ≡ x
-unfolding update Sorted find
-find-update-same n x end sf = find-add-same n x end refl
-find-update-same n x (leaf m c s) sf = go (cmp n m) refl (find-update-same n x s (sf .1))
-  where
-    go : (w : Ordering) → cmp n m ≡ w → find n (update n x s) ≡ x → find n (byOrder w (add n x (leaf m c s)) (add n x s) (leaf m c (update n x s))) ≡ x
-    go Ordering·lt e r = find-add-same n x (leaf m c s) (rw e (find-above n s (above-trans n m s e (sf .0))))
-    go Ordering·eq e r = find-add-same n x s (find-above n s (rw (cmp-eq n m e) (sf .0)))
-    go Ordering·gt e r = rw e r
-find-update-same n x (dir m j s) sf = go (cmp n m) refl (find-update-same n x s (sf .2))
-  where
-    go : (w : Ordering) → cmp n m ≡ w → find n (update n x s) ≡ x → find n (byOrder w (add n x (dir m j s)) (add n x s) (dir m j (update n x s))) ≡ x
-    go Ordering·lt e r = find-add-same n x (dir m j s) (rw e (find-above n s (above-trans n m s e (sf .0))))
-    go Ordering·eq e r = find-add-same n x s (find-above n s (rw (cmp-eq n m e) (sf .0)))
-    go Ordering·gt e r = rw e r
+  pub find-update-same : (f : Forest) → Sorted f → find n (update n x f) ≡ x
+  unfolding update find
+  find-update-same = siblings-ind (λ (f : Forest). Sorted f → find n (update n x f) ≡ x) (λ a. find-add-same n x end refl) more
+    where
+      more : (m : Name) (y : Node) (s : Forest) → Present y → (Sorted s → find n (update n x s) ≡ x) → Sorted (add m y s) → find n (update n x (add m y s)) ≡ x
+      more m y s h ih a = rw (update-add n m x y s h) (go (cmp n m) refl (sorted-parts m y s h a))
+        where
+          go : (w : Ordering) → cmp n m ≡ w → Above m s × SortedNode y × Sorted s → find n (byOrder w (add n x (add m y s)) (add n x s) (add m y (update n x s))) ≡ x
+          go Ordering·lt e p = find-add-same n x (add m y s) (find-above n (add m y s) (above-add n m y s e (above-trans n m e s (p .0))))
+          go Ordering·eq e p = find-add-same n x s (find-above n s (rw (cmp-eq n m e) (p .0)))
+          go Ordering·gt e p = rw (find-add n m y (update n x s) h, e) (ih (p .2))
 
-abbrev pub Differ : Name → Name → Type 0
-Differ k n = ¬ (cmp k n ≡ Ordering·eq)
+  pub find-update-other : (k : Name) → Differ k n → (f : Forest) → find k (update n x f) ≡ find k f
+  unfolding update
+  find-update-other k d = siblings-ind (λ (f : Forest). find k (update n x f) ≡ find k f) (find-add-other k n x end d) more
+    where
+      more : (m : Name) (y : Node) (s : Forest) → Present y → find k (update n x s) ≡ find k s → find k (update n x (add m y s)) ≡ find k (add m y s)
+      more m y s h ih = rw (update-add n m x y s h) (go (cmp n m) refl)
+        where
+          go : (w : Ordering) → cmp n m ≡ w → find k (byOrder w (add n x (add m y s)) (add n x s) (add m y (update n x s))) ≡ find k (add m y s)
+          go Ordering·lt e = find-add-other k n x (add m y s) d
+          go Ordering·eq e = find-add-other k n x s d ∙ sym (find-add-other k m y s (rw (cmp-eq n m e) at d))
+          go Ordering·gt e = rw (find-add k m y (update n x s) h, find-add k m y s h, ih)
 
-find-add-other : (k n : Name) (x : Node) (s : Forest) → Differ k n → find k (add n x s) ≡ find k s
-find-add-other k n x s d = go (cmp k n) refl
-  where
-    go : (w : Ordering) → cmp k n ≡ w → find k (add n x s) ≡ find k s
-    go Ordering·lt e = find-add-lt k n x s e
-    go Ordering·eq e = absurd (d e)
-    go Ordering·gt e = find-add-gt k n x s e
+-- the path's parent is a folder
+unfoldable pub Open : TreePath → Node → Type 0
+Open [] t = Unit {0}
+Open (n ∷ p) absent = ⊥
+Open (n ∷ p) (file c) = ⊥
+Open (n ∷ p) (folder f) = Open p (find n f)
 
-pub find-update-other : (k n : Name) (x : Node) (f : Forest) → Differ k n → find k (update n x f) ≡ find k f
-unfolding update find
-find-update-other k n x end d = find-add-other k n x end d
-find-update-other k n x (leaf m c s) d = go (cmp n m) refl (find-update-other k n x s d)
+pub put-here : (p : TreePath) (x t : Node) → SortedNode t → Open p t → at (put p x t) p ≡ x
+unfolding put at Open
+put-here [] x t st h = refl
+put-here (n ∷ p) x absent st h = absurd h
+put-here (n ∷ p) x (file c) st h = absurd h
+put-here (n ∷ p) x (folder f) st h =
+    rw (find-update-same n (put p x (find n f)) f st) (put-here p x (find n f) (sorted-find n f st) h)
+
+-- two paths part where their names first differ
+unfoldable pub Part : TreePath → TreePath → Type 0
+Part [] q = ⊥
+Part (n ∷ p) [] = ⊥
+Part (n ∷ p) (m ∷ q) = ifSame (cmp m n) (Part p q) (Unit {0})
+
+pub put-elsewhere : (p q : TreePath) (x t : Node) → SortedNode t → Part p q → at (put p x t) q ≡ at t q
+unfolding put at Part
+put-elsewhere [] q x t st h = absurd h
+put-elsewhere (n ∷ p) [] x t st h = absurd h
+put-elsewhere (n ∷ p) (m ∷ q) x absent st h = refl
+put-elsewhere (n ∷ p) (m ∷ q) x (file c) st h = refl
+put-elsewhere (n ∷ p) (m ∷ q) x (folder f) st h = go (cmp m n) refl h (put-elsewhere p q x (find n f) (sorted-find n f st))
   where
-    go : (w : Ordering) → cmp n m ≡ w → find k (update n x s) ≡ find k s → find k (byOrder w (add n x (leaf m c s)) (add n x s) (leaf m c (update n x s))) ≡ find k (leaf m c s)
-    go Ordering·lt e r = find-add-other k n x (leaf m c s) d
-    go Ordering·eq e r = find-add-other k n x s d ∙ sym (find-add-other k m (file c) s (rw (cmp-eq n m e) at d))
-    go Ordering·gt e r = ap (ifSame (cmp k m) (file c)) r
-find-update-other k n x (dir m j s) d = go (cmp n m) refl (find-update-other k n x s d)
-  where
-    go : (w : Ordering) → cmp n m ≡ w → find k (update n x s) ≡ find k s → find k (byOrder w (add n x (dir m j s)) (add n x s) (dir m j (update n x s))) ≡ find k (dir m j s)
-    go Ordering·lt e r = find-add-other k n x (dir m j s) d
-    go Ordering·eq e r = find-add-other k n x s d ∙ sym (find-add-other k m (folder j) s (rw (cmp-eq n m e) at d))
-    go Ordering·gt e r = ap (ifSame (cmp k m) (folder j)) r
+    y : Node
+    y = put p x (find n f)
+
+    go : (w : Ordering) → cmp m n ≡ w → ifSame w (Part p q) (Unit {0}) → (Part p q → at y q ≡ at (find n f) q)
+        → at (find m (update n y f)) q ≡ at (find m f) q
+    go Ordering·lt e h ih = rw (find-update-other n y m (λ d. never (cc)) f)
+    go Ordering·eq e h ih = rw (cmp-eq m n e, find-update-same n y f st) (ih h)
+    go Ordering·gt e h ih = rw (find-update-other n y m (λ d. never (cc)) f)
 
 pub sorted-put : (p : TreePath) (x t : Node) → SortedNode x → SortedNode t → SortedNode (put p x t)
 unfolding put
 sorted-put [] x t sx st = sx
 sorted-put (n ∷ p) x absent sx st = tt
 sorted-put (n ∷ p) x (file c) sx st = tt
-sorted-put (n ∷ p) x (folder f) sx st = sorted-update n (put p x (find n f)) f (sorted-put p x (find n f) sx (sorted-find n f st)) st
+sorted-put (n ∷ p) x (folder f) sx st = sorted-update n (put p x (find n f)) (sorted-put p x (find n f) sx (sorted-find n f st)) f st

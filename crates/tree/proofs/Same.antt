@@ -1,15 +1,14 @@
 -- The equality tests are equality.
 use mathlib.Core.Bool.{Bool, _&&_, false, true}
 use mathlib.Core.List.{List}
-use mathlib.Core.Path.{_∙_, _≡_, ap, refl, sym}
-use native.Mathlib.Omega.{arith}
+use mathlib.Core.Path.{_≡_, ap, refl, sym}
 use lib.Dec.{isEq}
 use Prim.Native.Nat.{Ordering, Ordering·eq, Ordering·gt, Ordering·lt, ℕ}
 use Rattle.tree.specs.Forest.{Forest, Forest.dir, Forest.end, Forest.leaf, Node, Node.absent, Node.file, Node.folder}
-use Rattle.tree.specs.Name.{Name, cmp}
+use Rattle.tree.specs.Name.{cmp}
 use Rattle.tree.specs.Same.{sameForest, sameNode, sameWords}
-use Rattle.tree.proofs.Order.{cmp-eq, cmp-flip, cmp-refl, flip}
-use Rattle.tree.proofs.Put.{Differ}
+use Rattle.tree.proofs.Order.{cmp-eq, cmp-refl}
+use Rattle.tree.proofs.Never.{never}
 
 pub and-true : (a b : Bool) → (a && b) ≡ true → (a ≡ true) × (b ≡ true)
 and-true true b e = (refl, e)
@@ -70,26 +69,21 @@ sameNode-eq (folder f) absent e = cc
 sameNode-eq (folder f) (file d) e = cc
 sameNode-eq (folder f) (folder g) e = ap folder (sameForest-eq f g e)
 
-pub clashed : {P : Type 0} (a : Bool) → a ≡ false → a ≡ true → P
-clashed a e h = absurd (let z : _≡_ {A = ℕ} 0 1 = cc in omega arith)
-
-pub eq-true : (x y : Node) → x ≡ y → sameNode x y ≡ true
-eq-true x y e = rw e (sameNode-refl y)
+pub sameNode-true : (x y : Node) → x ≡ y → sameNode x y ≡ true
+sameNode-true x y e = rw e (sameNode-refl y)
 
 pub sameNode-sym : (x y : Node) → sameNode x y ≡ sameNode y x
 sameNode-sym x y = go (sameNode x y) (sameNode y x) refl refl
   where
     go : (a b : Bool) → sameNode x y ≡ a → sameNode y x ≡ b → a ≡ b
     go true true e f = refl
-    go true false e f = clashed (sameNode y x) f (eq-true y x (sym (sameNode-eq x y e)))
-    go false true e f = clashed (sameNode x y) e (eq-true x y (sym (sameNode-eq y x f)))
+    go true false e f = let h = sameNode-true y x (sym (sameNode-eq x y e)) in never (cc)
+    go false true e f = let h = sameNode-true x y (sym (sameNode-eq y x f)) in never (cc)
     go false false e f = refl
 
-pub sameWords-false : (n m : Name) → Differ m n → sameWords n m ≡ false
-unfolding sameWords
-sameWords-false n m d = go (cmp n m) refl
+pub sameWords-false : (a b : List ℕ) → (a ≡ b → ⊥) → sameWords a b ≡ false
+sameWords-false a b h = go (sameWords a b) refl
   where
-    go : (w : Ordering) → cmp n m ≡ w → lib.Dec.isEq w ≡ false
-    go Ordering·lt e = refl
-    go Ordering·eq e = absurd (d (cmp-flip n m ∙ ap flip e))
-    go Ordering·gt e = refl
+    go : (w : Bool) → sameWords a b ≡ w → w ≡ false
+    go true e = absurd (h (sameWords-eq a b e))
+    go false e = refl
