@@ -29,9 +29,11 @@ unfolding newArchive settle
 unique o l r so sl sr N f W =
     only archive (folder o) (folder l) (folder r) so sl sr N (up N (f .only-folders)) (λ q h. W q (rel→relevant q (pathMap l) (pathMap r) h))
 
-pub ours : (o l r a : Forest) → Sorted o → Sorted l → Sorted r → Sorted a → Remembers (pathMap o) (pathMap l) (pathMap r) (pathMap a) → a ≡ newArchive o l r
+pub ours : (o l r a : Forest) → Sorted o → Sorted l → Sorted r → Sorted a → Remembers (pathMap o) (pathMap l) (pathMap r) (pathMap a)
+    → a ≡ newArchive o l r
 ours o l r a so sl sr sa W =
-    un-folder _ _ (node-ext (folder a) (folder (newArchive o l r)) sa (sorted-archive o l r so sl sr) (unique o l r so sl sr (pathMap a) (filesystem a) W))
+    un-folder _ _ (node-ext (folder a) (folder (newArchive o l r)) sa (sorted-archive o l r so sl sr)
+    (unique o l r so sl sr (pathMap a) (filesystem a) W))
 
 -- in document 01's words, at a relevant path
 module _ (o l r : Forest) (so : Sorted o) (sl : Sorted l) (sr : Sorted r) (p : TreePath) (h : Relevant (pathMap l) (pathMap r) p) where

@@ -50,7 +50,8 @@ unfolding value at
 other-folder leftIs l r = refl
 other-folder rightIs l r = refl
 
-other-find : (w : Which) (l r : Forest) (n : Name) (q : TreePath) → value (other w (folder l) (folder r)) (n ∷ q) ≡ value (other w (find n l) (find n r)) q
+other-find : (w : Which) (l r : Forest) (n : Name) (q : TreePath)
+    → value (other w (folder l) (folder r)) (n ∷ q) ≡ value (other w (find n l) (find n r)) q
 unfolding value at
 other-find leftIs l r n q = refl
 other-find rightIs l r n q = refl
@@ -69,5 +70,6 @@ gives-pair w o l r ih e pk f (n ∷ q) =
     ∙ ih n (ap (λ (x : Node). find n (kids x)) e ∙ this-find w l r n) (below n pk) (settles-below n pk f) q
     ∙ sym (other-find w l r n q)
 
-pub gives : (w : Which) (l r : Node) (pk : Pick) → Settles pk → (q : TreePath) → value (newNode pk (settle (this w l r) l r)) q ≡ value (other w l r) q
+pub gives : (w : Which) (l r : Node) (pk : Pick) → Settles pk → (q : TreePath)
+    → value (newNode pk (settle (this w l r) l r)) q ≡ value (other w l r) q
 gives w l r = settle-ind (Gives w) (gives-single w) (gives-pair w) (this w l r) l r refl

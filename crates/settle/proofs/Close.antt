@@ -51,7 +51,8 @@ unfolding settle
 rests-pair o l r ih so sl sr pk f =
     let k = kids o in let sk = sorted-kids o so in
     ap folder (new-ext pk pk f f (new toArchive (plan k l r)) (new toLeft (plan k l r)) (new toRight (plan k l r)) k l r
-    (sorted-new toArchive (settles archive) k l r sk sl sr) (sorted-new toLeft (settles left) k l r sk sl sr) (sorted-new toRight (settles right) k l r sk sl sr) sk sl sr
+    (sorted-new toArchive (settles archive) k l r sk sl sr) (sorted-new toLeft (settles left) k l r sk sl sr)
+    (sorted-new toRight (settles right) k l r sk sl sr) sk sl sr
     (λ n. rw (archive-find k l r n, left-find k l r n, right-find k l r n)
     (ih n (sorted-child n o so) (sorted-find n l sl) (sorted-find n r sr) (below n pk) (settles-below n pk f))))
 
@@ -66,7 +67,8 @@ unfolding decide keep
 clashes-left-single o l r nb = rw (settle-single o l r nb) (go (sameNode l r) (sameNode l o) (sameNode r o) refl refl refl)
   where
     go : (a b c : Bool) → sameNode l r ≡ a → sameNode l o ≡ b → sameNode r o ≡ c
-        → linesOf (settle (forArchive (rule a b c) o l r) (forLeft (rule a b c) o l r) (forRight (rule a b c) o l r)) ≡ keep isClash (lineOf [] (rule a b c))
+        → linesOf (settle (forArchive (rule a b c) o l r) (forLeft (rule a b c) o l r) (forRight (rule a b c) o l r)) ≡ keep isClash
+        (lineOf [] (rule a b c))
     go true b c ea eb ec = rw (sameNode-eq l r ea) (list-same r r)
     go false true c ea eb ec = list-same r r
     go false false true ea eb ec = list-same l l
@@ -78,11 +80,13 @@ clash-under n (line p leftGets) = refl
 clash-under n (line p rightGets) = refl
 clash-under n (line p clash) = refl
 
-clashes-left-pair : (o : Node) (l r : Forest) → ((n : Name) → ClashesLeft (find n (kids o)) (find n l) (find n r)) → ClashesLeft o (folder l) (folder r)
+clashes-left-pair : (o : Node) (l r : Forest) → ((n : Name) → ClashesLeft (find n (kids o)) (find n l) (find n r))
+    → ClashesLeft o (folder l) (folder r)
 unfolding settle
 clashes-left-pair o l r ih =
     let k = kids o in
-    list-hom (keep isClash) (keep-nil isClash) (keep-append isClash) k l r (new toArchive (plan k l r)) (new toLeft (plan k l r)) (new toRight (plan k l r))
+    list-hom (keep isClash) (keep-nil isClash) (keep-append isClash) k l r (new toArchive (plan k l r)) (new toLeft (plan k l r))
+    (new toRight (plan k l r))
     (λ n. rw (archive-find k l r n, left-find k l r n, right-find k l r n)
     (ap (map (under n)) (ih n ∙ keep-cong isClash (λ x. isClash (under n x)) (linesOf (settle (find n k) (find n l) (find n r))) (clash-under n))
     ∙ sym (keep-under isClash n (linesOf (settle (find n k) (find n l) (find n r))))))
@@ -94,4 +98,5 @@ pub closes : (o l r : Forest) → Sorted o → Sorted l → Sorted r → Closes 
 unfolding newArchive newLeft newRight settle
 closes o l r so sl sr =
     let e = rests (folder o) (folder l) (folder r) so sl sr in
-    outcome-ext _ _ (clashes-left (folder o) (folder l) (folder r)) (un-folder _ _ (e toArchive (settles archive))) (un-folder _ _ (e toLeft (settles left))) (un-folder _ _ (e toRight (settles right)))
+    outcome-ext _ _ (clashes-left (folder o) (folder l) (folder r)) (un-folder _ _ (e toArchive (settles archive)))
+    (un-folder _ _ (e toLeft (settles left))) (un-folder _ _ (e toRight (settles right)))

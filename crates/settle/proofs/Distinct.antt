@@ -49,7 +49,8 @@ fresh-gather : (n : Name) (p : TreePath) (ns : Names) (g : Name → Lines) → O
 unfolding gather Over Fresh
 fresh-gather n p [] g h = tt
 fresh-gather n p (m ∷ ms) g h =
-    fresh-append (n ∷ p) (map (under m) (g m)) (gather ms (λ k. map (under k) (g k))) (fresh-other n m p (g m) (apart n m (h .0))) (fresh-gather n p ms g (h .1))
+    fresh-append (n ∷ p) (map (under m) (g m)) (gather ms (λ k. map (under k) (g k))) (fresh-other n m p (g m) (apart n m (h .0)))
+    (fresh-gather n p ms g (h .1))
 
 uniq-append : (n : Name) (xs b : Lines) → Uniq (map (under n) xs) → Uniq b → ((p : TreePath) → Fresh (n ∷ p) b) → Uniq (map (under n) xs ++ b)
 unfolding Uniq
@@ -60,7 +61,8 @@ uniq-gather : (ns : Names) (g : Name → Lines) → Asc ns → ((n : Name) → U
 unfolding gather Asc Uniq
 uniq-gather [] g a u = tt
 uniq-gather (n ∷ ns) g a u =
-    uniq-append n (g n) (gather ns (λ m. map (under m) (g m))) (uniq-under n (g n) (u n)) (uniq-gather ns g (a .1) u) (λ p. fresh-gather n p ns g (a .0))
+    uniq-append n (g n) (gather ns (λ m. map (under m) (g m))) (uniq-under n (g n) (u n)) (uniq-gather ns g (a .1) u)
+    (λ p. fresh-gather n p ns g (a .0))
 
 abbrev UniqN : Node → Node → Node → Type 0
 UniqN o l r = Uniq (linesOf (settle o l r))
@@ -77,7 +79,8 @@ uniq-single o l r nb = rw (settle-single o l r nb) (go (decide o l r))
 
 uniq-pair : (o : Node) (l r : Forest) → ((n : Name) → UniqN (find n (kids o)) (find n l) (find n r)) → UniqN o (folder l) (folder r)
 unfolding settle
-uniq-pair o l r ih = rw (list-plan (kids o) l r) (uniq-gather (names (kids o) l r) (λ n. linesOf (settle (find n (kids o)) (find n l) (find n r))) (asc-names (kids o) l r) ih)
+uniq-pair o l r ih = rw (list-plan (kids o) l r) (uniq-gather (names (kids o) l r) (λ n. linesOf (settle (find n (kids o)) (find n l) (find n r)))
+    (asc-names (kids o) l r) ih)
 
 pub distinct : (o l r : Forest) → Uniq (list (plan o l r))
 unfolding settle

@@ -66,7 +66,8 @@ unfolding gather insert has Asc
 gather-insert m [] g a v = rw (v refl)
 gather-insert m (n ∷ ns) g a v = go (cmp m n) refl v (gather-insert m ns g (a .1))
   where
-    go : (w : Ordering) → cmp m n ≡ w → ((isEq w || has m ns) ≡ false → g m ≡ []) → ((has m ns ≡ false → g m ≡ []) → gather (insert m ns) g ≡ gather ns g)
+    go : (w : Ordering) → cmp m n ≡ w → ((isEq w || has m ns) ≡ false → g m ≡ [])
+        → ((has m ns ≡ false → g m ≡ []) → gather (insert m ns) g ≡ gather ns g)
         → gather (byOrder w (m ∷ (n ∷ ns)) (n ∷ ns) (n ∷ insert m ns)) g ≡ g n ++ gather ns g
     go Ordering·lt e v ih = rw (v (has-over m n ns e (a .0)))
     go Ordering·eq e v ih = refl
@@ -94,9 +95,11 @@ gather-insAll : (ms us : Names) (g : Name → Lines) → Asc us → ((k : Name) 
 unfolding insAll
 gather-insAll [] us g a v = refl
 gather-insAll (m ∷ ms) us g a v =
-    gather-insert m (insAll ms us) g (asc-insAll ms us a) (λ e. v m (or-false (has m ms) (has m us) (sym (has-insAll m ms us) ∙ e) .1)) ∙ gather-insAll ms us g a v
+    gather-insert m (insAll ms us) g (asc-insAll ms us a) (λ e. v m (or-false (has m ms) (has m us) (sym (has-insAll m ms us) ∙ e) .1))
+    ∙ gather-insAll ms us g a v
 
-pub gather-ext : (ns ms : Names) (g : Name → Lines) → Asc ns → Asc ms → ((k : Name) → has k ns ≡ false → g k ≡ []) → ((k : Name) → has k ms ≡ false → g k ≡ [])
+pub gather-ext : (ns ms : Names) (g : Name → Lines) → Asc ns → Asc ms → ((k : Name) → has k ns ≡ false → g k ≡ [])
+    → ((k : Name) → has k ms ≡ false → g k ≡ [])
     → gather ns g ≡ gather ms g
 gather-ext ns ms g a b v w =
     sym (gather-insAll ms ns g a v)
@@ -105,7 +108,8 @@ gather-ext ns ms g a b v w =
     ∙ gather-insAll ns ms g b w
 
 -- one run's list from another's, by a map that respects joining: compare them name by name
-gather-hom : (F : Lines → Lines) → F [] ≡ [] → ((a b : Lines) → F (a ++ b) ≡ F a ++ F b) → (ns : Names) (g : Name → Lines) → gather ns (λ n. F (g n)) ≡ F (gather ns g)
+gather-hom : (F : Lines → Lines) → F [] ≡ [] → ((a b : Lines) → F (a ++ b) ≡ F a ++ F b) → (ns : Names) (g : Name → Lines)
+    → gather ns (λ n. F (g n)) ≡ F (gather ns g)
 unfolding gather
 gather-hom F z m [] g = sym z
 gather-hom F z m (n ∷ ns) g = rw (gather-hom F z m ns g) (sym (m (g n) (gather ns g)))
@@ -165,7 +169,8 @@ quiet-pair : (o : Node) (l r : Forest) → ((n : Name) → Quiet (find n (kids o
 unfolding settle
 quiet-pair o l r ih e =
     let e′ : l ≡ r = cc in
-    list-plan (kids o) l r ∙ ap (gather (names (kids o) l r)) (fun-ext (λ n. ap (map (under n)) (ih n (ap (find n) e′)))) ∙ gather-none (names (kids o) l r)
+    list-plan (kids o) l r ∙ ap (gather (names (kids o) l r)) (fun-ext (λ n. ap (map (under n)) (ih n (ap (find n) e′))))
+    ∙ gather-none (names (kids o) l r)
 
 quiet-single : (o l r : Node) → NotBoth l r → Quiet o l r
 quiet-single o l r nb e = rw (settle-single o l r nb) (rw (e, decide-same o r))

@@ -115,5 +115,7 @@ pub mirrored : (o l r : Forest) → Sorted o → Sorted l → Sorted r → outco
 unfolding newArchive newLeft newRight settle
 mirrored o l r so sl sr =
     let e = turn (folder o) (folder l) (folder r) so sl sr in
-    outcome-ext _ _ (turn-list (folder o) (folder l) (folder r)) (un-folder _ _ (e toArchive toArchive (record { settles = settles archive; settles′ = settles archive; clashing = λ p o l r. refl })))
-    (un-folder _ _ (e toLeft toRight (record { settles = settles left; settles′ = settles right; clashing = λ p o l r. refl }))) (un-folder _ _ (e toRight toLeft (record { settles = settles right; settles′ = settles left; clashing = λ p o l r. refl })))
+    outcome-ext _ _ (turn-list (folder o) (folder l) (folder r))
+    (un-folder _ _ (e toArchive toArchive (record { settles = settles archive; settles′ = settles archive; clashing = λ p o l r. refl })))
+    (un-folder _ _ (e toLeft toRight (record { settles = settles left; settles′ = settles right; clashing = λ p o l r. refl })))
+    (un-folder _ _ (e toRight toLeft (record { settles = settles right; settles′ = settles left; clashing = λ p o l r. refl })))

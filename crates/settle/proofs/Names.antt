@@ -120,7 +120,8 @@ unfolding build Asc has find
 find-build n [] g h v = sym (v refl)
 find-build n (m ∷ ms) g h v = go (cmp n m) refl v (find-build n ms g (h .1))
   where
-    go : (o : Ordering) → cmp n m ≡ o → ((isEq o || has n ms) ≡ false → g n ≡ absent) → ((has n ms ≡ false → g n ≡ absent) → find n (build ms g) ≡ g n)
+    go : (o : Ordering) → cmp n m ≡ o → ((isEq o || has n ms) ≡ false → g n ≡ absent)
+        → ((has n ms ≡ false → g n ≡ absent) → find n (build ms g) ≡ g n)
         → find n (add m (g m) (build ms g)) ≡ g n
     go Ordering·lt e w ih = find-add-other n m (g m) (build ms g) (λ d. never (cc)) ∙ ih w
     go Ordering·eq e w ih = rw (cmp-eq n m e) (find-add-same m (g m) (build ms g) (find-build-over m ms g (h .0)))

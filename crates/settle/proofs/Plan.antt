@@ -18,7 +18,8 @@ unfolding settleIn settle find plan
 settleIn-settle end n o r = refl
 settleIn-settle (leaf m c s) n o r = go (cmp n m) (settleIn-settle s n o r)
   where
-    go : (w : Ordering) → settleIn s n o r ≡ settle o (find n s) r → ifSame w (single o (file c) r) (settleIn s n o r) ≡ settle o (ifSame w (file c) (find n s)) r
+    go : (w : Ordering) → settleIn s n o r ≡ settle o (find n s) r
+        → ifSame w (single o (file c) r) (settleIn s n o r) ≡ settle o (ifSame w (file c) (find n s)) r
     go Ordering·lt e = e
     go Ordering·eq e = refl
     go Ordering·gt e = e
@@ -32,7 +33,8 @@ settleIn-settle (dir m l s) n o r = go (cmp n m) (settleIn-settle s n o r)
     at-dir (file c) = refl
     at-dir (folder r′) = refl
 
-    go : (w : Ordering) → settleIn s n o r ≡ settle o (find n s) r → ifSame w (settleFolder o l r h) (settleIn s n o r) ≡ settle o (ifSame w (folder l) (find n s)) r
+    go : (w : Ordering) → settleIn s n o r ≡ settle o (find n s) r
+        → ifSame w (settleFolder o l r h) (settleIn s n o r) ≡ settle o (ifSame w (folder l) (find n s)) r
     go Ordering·lt e = e
     go Ordering·eq e = at-dir r
     go Ordering·gt e = e

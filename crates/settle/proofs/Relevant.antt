@@ -31,7 +31,8 @@ relevant→rel [] A B ua ub h = tt
 relevant→rel (n ∷ p) A B ua ub (inl e) = never (cc)
 relevant→rel (n ∷ p) A B ua ub (inr (q, x, e, a, b)) = go q e a b (relevant→rel p (beneath A n) (beneath B n) (λ p. ua (n ∷ p)) (λ p. ub (n ∷ p)))
   where
-    go : (q : TreePath) → n ∷ p ≡ q ++ (x ∷ []) → A q ≡ isFolder → B q ≡ isFolder → (Relevant (beneath A n) (beneath B n) p → Rel (beneath A n) (beneath B n) p)
+    go : (q : TreePath) → n ∷ p ≡ q ++ (x ∷ []) → A q ≡ isFolder → B q ≡ isFolder
+        → (Relevant (beneath A n) (beneath B n) p → Rel (beneath A n) (beneath B n) p)
         → (A [] ≡ isFolder) × (B [] ≡ isFolder) × Rel (beneath A n) (beneath B n) p
     go [] e a b ih = (a, b, ih (inl cc))
     go (y ∷ q) e a b ih =

@@ -32,7 +32,8 @@ still-chosen p (line q d ∷ ms) xs f c =
     (in-keep (elsewhere p) (line q d) xs (f .0) (c .0), c .1, c .2, still-chosen p ms xs (f .1) (c .3))
 
 -- the moves ms are still to choose from where one move has been made
-chosen-after : (p : TreePath) (ms : Lines) (u v : Outcome) → v ≡ withLines (without p (u .lines)) u → Fresh p ms → Chosen ms (u .lines) → Chosen ms (v .lines)
+chosen-after : (p : TreePath) (ms : Lines) (u v : Outcome) → v ≡ withLines (without p (u .lines)) u → Fresh p ms → Chosen ms (u .lines)
+    → Chosen ms (v .lines)
 chosen-after p ms u v e f c = subst (Chosen ms) (sym (ap (λ (w : Outcome). w .lines) e)) (still-chosen p ms (u .lines) f c)
 
 pub sorted-moved : (p : TreePath) (s t : Forest) → Sorted s → Sorted t → Sorted (moved p s t)

@@ -55,7 +55,8 @@ module _ (P : Name → Type 0) (Q : Content → Type 0) where
   within-zero (dir n k s) w = absurd w
 
   abbrev Pres : Node → Node → Node → Type 0
-  Pres o l r = (d : ℕ) → WithinNode P Q d o → WithinNode P Q d l → WithinNode P Q d r → (pk : Pick) → Settles pk → WithinNode P Q d (newNode pk (settle o l r))
+  Pres o l r = (d : ℕ) → WithinNode P Q d o → WithinNode P Q d l → WithinNode P Q d r → (pk : Pick) → Settles pk
+      → WithinNode P Q d (newNode pk (settle o l r))
 
   within-nothing : (pk : Pick) → Within P Q zero (new pk (plan end end end))
   unfolding Within new plan planOver names into
@@ -71,13 +72,15 @@ module _ (P : Name → Type 0) (Q : Content → Type 0) where
       (within-build d (names (kids o) l r) (λ n. newNode (below n pk) (settleIn l n (find n (kids o)) (find n r)))
       (all-names (suc d) (kids o) l r (within-kids P Q (suc d) o wo) wl wr)
       (λ n. rw (settleIn-settle l n (find n (kids o)) (find n r))
-      (ih n d (within-find P Q d n (kids o) (within-kids P Q (suc d) o wo)) (within-find P Q d n l wl) (within-find P Q d n r wr) (below n pk) (settles-below n pk f))))
+      (ih n d (within-find P Q d n (kids o) (within-kids P Q (suc d) o wo)) (within-find P Q d n l wl) (within-find P Q d n r wr) (below n pk)
+      (settles-below n pk f))))
 
   pres-single : (o l r : Node) → NotBoth l r → Pres o l r
   pres-single o l r nb d wo wl wr pk f =
       rw (settle-single o l r nb) (one-of (WithinNode P Q d) (pk [] (decide o l r) o l r) o l r (f .chooses [] (decide o l r) o l r) wo wl wr)
 
-  pub within-new : (pk : Pick) → Settles pk → (d : ℕ) (o l r : Forest) → Within P Q d o → Within P Q d l → Within P Q d r → Within P Q d (new pk (plan o l r))
+  pub within-new : (pk : Pick) → Settles pk → (d : ℕ) (o l r : Forest) → Within P Q d o → Within P Q d l → Within P Q d r
+      → Within P Q d (new pk (plan o l r))
   unfolding settle
   within-new pk f d o l r wo wl wr = settle-ind Pres pres-single pres-pair (folder o) (folder l) (folder r) d wo wl wr pk f
 

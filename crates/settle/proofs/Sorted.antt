@@ -47,8 +47,10 @@ unfolding newArchive
 sorted-archive = sorted-new _ (settles archive)
 
 -- two new trees are equal if they are at each name
-pub new-ext : (pk qk : Pick) → Settles pk → Settles qk → (o l r o′ l′ r′ : Forest) → Sorted o → Sorted l → Sorted r → Sorted o′ → Sorted l′ → Sorted r′
-    → ((n : Name) → newNode (below n pk) (settle (find n o) (find n l) (find n r)) ≡ newNode (below n qk) (settle (find n o′) (find n l′) (find n r′)))
+pub new-ext : (pk qk : Pick) → Settles pk → Settles qk → (o l r o′ l′ r′ : Forest) → Sorted o → Sorted l → Sorted r → Sorted o′ → Sorted l′
+    → Sorted r′
+    → ((n : Name) → newNode (below n pk) (settle (find n o) (find n l) (find n r)) ≡ newNode (below n qk)
+    (settle (find n o′) (find n l′) (find n r′)))
     → new pk (plan o l r) ≡ new qk (plan o′ l′ r′)
 new-ext pk qk f g o l r o′ l′ r′ so sl sr so′ sl′ sr′ E =
     find-ext (new pk (plan o l r)) (new qk (plan o′ l′ r′)) (sorted-new pk f o l r so sl sr) (sorted-new qk g o′ l′ r′ so′ sl′ sr′)

@@ -26,7 +26,8 @@ pub record Stepped (p : TreePath) (o l l′ r : Node) : Type 0 where
   pub lines : linesOf (settle o l′ r) ≡ without p (linesOf (settle o l r))
 
 abbrev Steps : Node → Node → Node → Type 0
-Steps o l r = (p : TreePath) → SortedNode o → SortedNode l → SortedNode r → In (line p leftGets) (linesOf (settle o l r)) → Stepped p o l (put p (at r p) l) r
+Steps o l r = (p : TreePath) → SortedNode o → SortedNode l → SortedNode r → In (line p leftGets) (linesOf (settle o l r))
+    → Stepped p o l (put p (at r p) l) r
 
 steps-single : (o l r : Node) → NotBoth l r → Steps o l r
 unfolding keep samePath put at
@@ -47,7 +48,8 @@ module _ (n : Name) (p : TreePath) (o : Node) (l r : Forest) (x : Node) (so : So
       (λ m. go m (cmp m n) refl)
     where
       go : (m : Name) (w : Ordering) → cmp m n ≡ w
-          → newNode (below m pk) (settle (find m (kids o)) (find m (update n x l)) (find m r)) ≡ newNode (below m pk) (settle (find m (kids o)) (find m l) (find m r))
+          → newNode (below m pk) (settle (find m (kids o)) (find m (update n x l)) (find m r)) ≡ newNode (below m pk)
+          (settle (find m (kids o)) (find m l) (find m r))
       go m Ordering·lt e = rw (find-update-other n x m (λ h. never (cc)) l)
       go m Ordering·gt e = rw (find-update-other n x m (λ h. never (cc)) l)
       go m Ordering·eq e = rw (cmp-eq m n e, find-update-same n x l sl) (S .trees (below n pk) (settles-below n pk f))

@@ -80,7 +80,8 @@ module _ (s : Result) where
   unfolding Rel value at settle
   meets-pair o l r ih so sl sr [] h = at-root o (folder l) (folder r) so sl sr (λ e. refl) (λ a b n. absurd (n refl))
   meets-pair o l r ih so sl sr (n ∷ p) h =
-      target-cons (value o) (value (folder l)) (value (folder r)) (value (kept s o (folder l) (folder r))) (value (folder (new (to s) (plan (kids o) l r)))) n p
+      target-cons (value o) (value (folder l)) (value (folder r)) (value (kept s o (folder l) (folder r)))
+      (value (folder (new (to s) (plan (kids o) l r)))) n p
       (subst₂ (λ (x y : Node). Target (value (find n (kids o))) (value (find n l)) (value (find n r)) (value x) (value y) p)
       (sym (kept-find s o (folder l) (folder r) n)) (sym (result-find o l r n))
       (ih n (sorted-child n o so) (sorted-find n l sl) (sorted-find n r sr) p (h .2)))
@@ -106,16 +107,20 @@ module _ (s : Result) where
       go true b c ea eb ec m =
           let e = sameNode-eq l r ea in
           flat S u l (rw (← e) at nb) (m .same (ap top e)) p ∙ is (rw (← e) (sym (settles s .agrees [] o l)))
-      go false true c ea eb ec m = m .left-clean (λ q. ap (λ (x : Node). value x q) (sym (sameNode-eq l o eb))) p ∙ is (sym (settles s .left [] o l r))
-      go false false true ea eb ec m = m .right-clean (λ q. ap (λ (x : Node). value x q) (sym (sameNode-eq r o ec))) p ∙ is (sym (settles s .right [] o l r))
+      go false true c ea eb ec m = m .left-clean (λ q. ap (λ (x : Node). value x q) (sym (sameNode-eq l o eb))) p
+          ∙ is (sym (settles s .left [] o l r))
+      go false false true ea eb ec m = m .right-clean (λ q. ap (λ (x : Node). value x q) (sym (sameNode-eq r o ec))) p
+          ∙ is (sym (settles s .right [] o l r))
       go false false false ea eb ec m =
           m .clashing (not-clean o l so sl eb) (not-clean o r so sr ec) (λ h. let k = sameNode-true l r (top-same l r nb h) in never (cc)) p
           ∙ is (sym (to-clash s o l r))
 
-  wanted-child : (o : Node) (l r : Forest) (S : PathMap) (n : Name) → Wanted o (folder l) (folder r) S → Wanted (find n (kids o)) (find n l) (find n r) (beneath S n)
+  wanted-child : (o : Node) (l r : Forest) (S : PathMap) (n : Name) → Wanted o (folder l) (folder r) S
+      → Wanted (find n (kids o)) (find n l) (find n r) (beneath S n)
   unfolding Rel value at
   wanted-child o l r S n W p h =
-      subst (λ (x : Node). Target (value (find n (kids o))) (value (find n l)) (value (find n r)) (value x) (beneath S n) p) (kept-find s o (folder l) (folder r) n)
+      subst (λ (x : Node). Target (value (find n (kids o))) (value (find n l)) (value (find n r)) (value x) (beneath S n) p)
+      (kept-find s o (folder l) (folder r) n)
       (target-uncons (value o) (value (folder l)) (value (folder r)) (value (kept s o (folder l) (folder r))) S n p (W (n ∷ p) (refl, refl, h)))
 
   only-pair : (o : Node) (l r : Forest) → ((n : Name) → Only (find n (kids o)) (find n l) (find n r)) → Only o (folder l) (folder r)

@@ -49,11 +49,13 @@ pub sound : (o l r : Forest) → Sorted o → Sorted l → Sorted r
 unfolding newLeft newRight settle
 sound o l r so sl sr p h =
     met (pathMap o) (pathMap l) (pathMap r) (pathMap (newLeft o l r)) (pathMap (newRight o l r)) p
-    (meets left (folder o) (folder l) (folder r) so sl sr p (relevant l r p h)) (meets right (folder o) (folder l) (folder r) so sl sr p (relevant l r p h))
+    (meets left (folder o) (folder l) (folder r) so sl sr p (relevant l r p h))
+    (meets right (folder o) (folder l) (folder r) so sl sr p (relevant l r p h))
 
 -- UNIQUE: any two filesystems that meet them are the new trees, at every path
 pub unique : (o l r : Forest) → Sorted o → Sorted l → Sorted r → (C D : PathMap) → Filesystem C → Filesystem D
-    → Synchronization (pathMap o) (pathMap l) (pathMap r) C D → (p : TreePath) → (C p ≡ pathMap (newLeft o l r) p) × (D p ≡ pathMap (newRight o l r) p)
+    → Synchronization (pathMap o) (pathMap l) (pathMap r) C D → (p : TreePath)
+    → (C p ≡ pathMap (newLeft o l r) p) × (D p ≡ pathMap (newRight o l r) p)
 unfolding newLeft newRight settle
 unique o l r so sl sr C D fc fd S p = (
   only left (folder o) (folder l) (folder r) so sl sr C (up C (fc .only-folders))

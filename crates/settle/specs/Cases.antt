@@ -116,7 +116,8 @@ cases =
     case p/x=f p-empty p=g (line (p ∷ []) clash ∷ []) p/x=f p-empty p=g ∷
     case p=f p-empty p=f (line (p ∷ []) rightGets ∷ []) p-empty p-empty p-empty ∷
     case p=f p/x=f p/y=g (line (p ∷ x ∷ []) rightGets ∷ line (p ∷ y ∷ []) leftGets ∷ []) p/x=f+p/y=g p/x=f+p/y=g p/x=f+p/y=g ∷
-    case archive₁₂ left₁₂ right₁₂ (line (L ∷ d1 ∷ []) clash ∷ line (L ∷ d2 ∷ []) leftGets ∷ line (R ∷ d1 ∷ []) leftGets ∷ []) newArchive₁₂ newLeft₁₂ right₁₂ ∷
+    case archive₁₂ left₁₂ right₁₂ (line (L ∷ d1 ∷ []) clash ∷ line (L ∷ d2 ∷ []) leftGets ∷ line
+    (R ∷ d1 ∷ []) leftGets ∷ []) newArchive₁₂ newLeft₁₂ right₁₂ ∷
     case archive₁₂ left₁₃ right₁₂ (line (L ∷ d1 ∷ []) clash ∷ line (R ∷ d1 ∷ []) leftGets ∷ []) newArchive₁₂ newLeft₁₂ right₁₂ ∷
     []
 

@@ -1,6 +1,5 @@
 -- The decision at a relevant path that is not a folder on both sides: document 01's four lines, the first that fits.
 use mathlib.Core.Bool.{Bool, true, false}
-use Prim.Native.Nat.{ℕ}
 use Rattle.tree.specs.Forest.{Node}
 use Rattle.tree.specs.Same.{sameNode}
 
@@ -16,10 +15,3 @@ rule false false false = clash
 
 unfoldable pub decide : Node → Node → Node → Decision
 decide o l r = rule (sameNode l r) (sameNode l o) (sameNode r o)
-
--- as the list and the plan number them
-unfoldable pub kind : Decision → ℕ
-kind agreed = 0
-kind leftGets = 1
-kind rightGets = 2
-kind clash = 3

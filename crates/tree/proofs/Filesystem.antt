@@ -22,7 +22,8 @@ isFolder-some v e h = never (cc)
 pub up : (S : PathMap) → OnlyFolders S → Up S
 up S od p x [] h = od p x h
 up S od p x (y ∷ q) h =
-    od p x (isFolder-some (S (p ++ (x ∷ []))) (up S od (p ++ (x ∷ [])) y q (subst (λ (w : TreePath). ¬ (S w ≡ none)) (sym (append-assoc p (x ∷ []) (y ∷ q))) h)))
+    od p x (isFolder-some (S (p ++ (x ∷ []))) (up S od (p ++ (x ∷ [])) y q
+    (subst (λ (w : TreePath). ¬ (S w ≡ none)) (sym (append-assoc p (x ∷ []) (y ∷ q))) h)))
 
 pub value-absent : (q : TreePath) → value absent q ≡ none
 unfolding value at find
@@ -46,7 +47,8 @@ depthNode absent = 0
 depthNode (file c) = 1
 depthNode (folder k) = suc (depth k)
 
-deeper : (n m : Name) (x : Node) (s : Forest) → depthNode (find n s) ≤ depth s → depthNode (ifSame (cmp n m) x (find n s)) ≤ max (depthNode x) (depth s)
+deeper : (n m : Name) (x : Node) (s : Forest) → depthNode (find n s) ≤ depth s
+    → depthNode (ifSame (cmp n m) x (find n s)) ≤ max (depthNode x) (depth s)
 deeper n m x s h = go (cmp n m)
   where
     go : (w : Ordering) → depthNode (ifSame w x (find n s)) ≤ max (depthNode x) (depth s)

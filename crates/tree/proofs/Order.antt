@@ -92,7 +92,8 @@ cmp-eq [] (y ∷ ys) e = cc
 cmp-eq (x ∷ xs) [] e = cc
 cmp-eq (x ∷ xs) (y ∷ ys) e = go (compare x y) refl e (cmp-eq xs ys)
   where
-    go : (o : Ordering) → compare x y ≡ o → orElse o (cmp xs ys) ≡ Ordering·eq → (cmp xs ys ≡ Ordering·eq → xs ≡ ys) → _≡_ {A = Name} (x ∷ xs) (y ∷ ys)
+    go : (o : Ordering) → compare x y ≡ o → orElse o (cmp xs ys) ≡ Ordering·eq → (cmp xs ys ≡ Ordering·eq → xs ≡ ys)
+        → _≡_ {A = Name} (x ∷ xs) (y ∷ ys)
     go Ordering·lt h e ih = cc
     go Ordering·eq h e ih = let p = compare-eq x y h in let q = ih e in cc
     go Ordering·gt h e ih = cc
@@ -101,7 +102,8 @@ trans-step : (x y z : ℕ) (s t u : Ordering) → (s ≡ Ordering·lt → t ≡ 
     → orElse (compare x y) s ≡ Ordering·lt → orElse (compare y z) t ≡ Ordering·lt → orElse (compare x z) u ≡ Ordering·lt
 trans-step x y z s t u ih = go (compare x y) (compare y z) refl refl
   where
-    go : (o r : Ordering) → compare x y ≡ o → compare y z ≡ r → orElse o s ≡ Ordering·lt → orElse r t ≡ Ordering·lt → orElse (compare x z) u ≡ Ordering·lt
+    go : (o r : Ordering) → compare x y ≡ o → compare y z ≡ r → orElse o s ≡ Ordering·lt → orElse r t ≡ Ordering·lt
+        → orElse (compare x z) u ≡ Ordering·lt
     go Ordering·lt Ordering·lt h k p q = rw (compare-trans x y z h k)
     go Ordering·lt Ordering·eq h k p q = rw (← compare-eq y z k, h)
     go Ordering·lt Ordering·gt h k p q = cc

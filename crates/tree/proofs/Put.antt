@@ -21,7 +21,8 @@ module _ (n : Name) (x : Node) where
   unfolding update
   above-update k e = siblings-ind (λ (f : Forest). Above k f → Above k (update n x f)) (λ a. above-add k n x end e a) more
     where
-      more : (m : Name) (y : Node) (s : Forest) → Present y → (Above k s → Above k (update n x s)) → Above k (add m y s) → Above k (update n x (add m y s))
+      more : (m : Name) (y : Node) (s : Forest) → Present y → (Above k s → Above k (update n x s)) → Above k (add m y s)
+          → Above k (update n x (add m y s))
       more m y s h ih a = rw (update-add n m x y s h) (go (cmp n m) (above-parts k m y s h a))
         where
           go : (w : Ordering) → (cmp k m ≡ Ordering·lt) × Above k s → Above k (byOrder w (add n x (add m y s)) (add n x s) (add m y (update n x s)))
@@ -33,10 +34,12 @@ module _ (n : Name) (x : Node) where
   unfolding update Above Sorted
   sorted-update sx = siblings-ind (λ (f : Forest). Sorted f → Sorted (update n x f)) (λ a. sorted-add n x end tt sx tt) more
     where
-      more : (m : Name) (y : Node) (s : Forest) → Present y → (Sorted s → Sorted (update n x s)) → Sorted (add m y s) → Sorted (update n x (add m y s))
+      more : (m : Name) (y : Node) (s : Forest) → Present y → (Sorted s → Sorted (update n x s)) → Sorted (add m y s)
+          → Sorted (update n x (add m y s))
       more m y s h ih a = rw (update-add n m x y s h) (go (cmp n m) refl (sorted-parts m y s h a))
         where
-          go : (w : Ordering) → cmp n m ≡ w → Above m s × SortedNode y × Sorted s → Sorted (byOrder w (add n x (add m y s)) (add n x s) (add m y (update n x s)))
+          go : (w : Ordering) → cmp n m ≡ w → Above m s × SortedNode y × Sorted s
+              → Sorted (byOrder w (add n x (add m y s)) (add n x s) (add m y (update n x s)))
           go Ordering·lt e p = sorted-add n x (add m y s) (above-add n m y s e (above-trans n m e s (p .0))) sx a
           go Ordering·eq e p = sorted-add n x s (rw (cmp-eq n m e) (p .0)) sx (p .2)
           go Ordering·gt e p = sorted-add m y (update n x s) (above-update m (cmp-flip n m ∙ ap flip e) s (p .0)) (p .1) (ih (p .2))
@@ -45,10 +48,12 @@ module _ (n : Name) (x : Node) where
   unfolding update find
   find-update-same = siblings-ind (λ (f : Forest). Sorted f → find n (update n x f) ≡ x) (λ a. find-add-same n x end refl) more
     where
-      more : (m : Name) (y : Node) (s : Forest) → Present y → (Sorted s → find n (update n x s) ≡ x) → Sorted (add m y s) → find n (update n x (add m y s)) ≡ x
+      more : (m : Name) (y : Node) (s : Forest) → Present y → (Sorted s → find n (update n x s) ≡ x) → Sorted (add m y s)
+          → find n (update n x (add m y s)) ≡ x
       more m y s h ih a = rw (update-add n m x y s h) (go (cmp n m) refl (sorted-parts m y s h a))
         where
-          go : (w : Ordering) → cmp n m ≡ w → Above m s × SortedNode y × Sorted s → find n (byOrder w (add n x (add m y s)) (add n x s) (add m y (update n x s))) ≡ x
+          go : (w : Ordering) → cmp n m ≡ w → Above m s × SortedNode y × Sorted s
+              → find n (byOrder w (add n x (add m y s)) (add n x s) (add m y (update n x s))) ≡ x
           go Ordering·lt e p = find-add-same n x (add m y s) (find-above n (add m y s) (above-add n m y s e (above-trans n m e s (p .0))))
           go Ordering·eq e p = find-add-same n x s (find-above n s (rw (cmp-eq n m e) (p .0)))
           go Ordering·gt e p = rw (find-add n m y (update n x s) h, e) (ih (p .2))

@@ -22,7 +22,8 @@ under-length [] k = omega arith
 under-length (n ∷ p) k = let e = under-length p k in omega arith
 
 module _ (P : Name → Type 0) (Q : Content → Type 0) where
-  pub within-parts : (d : ℕ) (m : Name) (y : Node) (s : Forest) → Present y → Within P Q (suc d) (add m y s) → P m × WithinNode P Q d y × Within P Q (suc d) s
+  pub within-parts : (d : ℕ) (m : Name) (y : Node) (s : Forest) → Present y → Within P Q (suc d) (add m y s)
+      → P m × WithinNode P Q d y × Within P Q (suc d) s
   unfolding Within
   within-parts d m absent s h w = absurd h
   within-parts d m (file c) s h w = w
@@ -53,9 +54,11 @@ module _ (P : Name → Type 0) (Q : Content → Type 0) where
   within-kids d (file c) w = tt
   within-kids d (folder k) w = w
 
-  pub within-update : (d : ℕ) (n : Name) (x : Node) → P n → WithinNode P Q d x → (f : Forest) → Within P Q (suc d) f → Within P Q (suc d) (update n x f)
+  pub within-update : (d : ℕ) (n : Name) (x : Node) → P n → WithinNode P Q d x → (f : Forest) → Within P Q (suc d) f
+      → Within P Q (suc d) (update n x f)
   unfolding update
-  within-update d n x pn wx = siblings-ind (λ (f : Forest). Within P Q (suc d) f → Within P Q (suc d) (update n x f)) (λ w. within-add d n x end pn wx w) more
+  within-update d n x pn wx = siblings-ind (λ (f : Forest). Within P Q (suc d) f → Within P Q (suc d) (update n x f))
+      (λ w. within-add d n x end pn wx w) more
     where
       more : (m : Name) (y : Node) (s : Forest) → Present y → (Within P Q (suc d) s → Within P Q (suc d) (update n x s))
           → Within P Q (suc d) (add m y s) → Within P Q (suc d) (update n x (add m y s))
@@ -77,7 +80,8 @@ module _ (P : Name → Type 0) (Q : Content → Type 0) where
   within-at k [] t w = w
   within-at k (n ∷ p) t w = within-at k p (find n (kids t)) (within-find (under p k) n (kids t) (within-kids (suc (under p k)) t w))
 
-  pub within-put : (k : ℕ) (p : TreePath) (x t : Node) → NamesOf p → WithinNode P Q k x → WithinNode P Q (under p k) t → WithinNode P Q (under p k) (put p x t)
+  pub within-put : (k : ℕ) (p : TreePath) (x t : Node) → NamesOf p → WithinNode P Q k x → WithinNode P Q (under p k) t
+      → WithinNode P Q (under p k) (put p x t)
   unfolding put NamesOf under
   within-put k [] x t h wx wt = wx
   within-put k (n ∷ p) x absent h wx wt = tt

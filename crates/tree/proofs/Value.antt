@@ -40,7 +40,12 @@ not-lt : (n m : Name) (x y : Node) (s t : Forest) → Present x → Above n s �
     → ((k : Name) (p : TreePath) → value (find k (add n x s)) p ≡ value (find k (add m y t)) p) → cmp n m ≡ Ordering·lt → ⊥
 unfolding value at
 not-lt n m x y s t h a b E e =
-    present-top x h (rw (find-add-same n x s (find-above n s a), find-add-other n m y t (λ d. never (cc)), find-above n t (above-trans n m e t b)) at (E n []))
+    present-top x h (rw (
+      find-add-same n x s (find-above n s a),
+      find-add-other n m y t (λ d. never (cc)),
+      find-above n t
+          (above-trans n m e t b),
+    ) at (E n []))
 
 heads : (n m : Name) (x y : Node) (s t : Forest) → Present x → Present y → Above n s → Above m t
     → ((k : Name) (p : TreePath) → value (find k (add n x s)) p ≡ value (find k (add m y t)) p) → Heads n m x y s t
@@ -56,7 +61,8 @@ heads n m x y s t h j a b E = go (cmp n m) refl
         = subst (λ (w : Name). (k : Name) (p : TreePath) → value (find k (add n x s)) p ≡ value (find k (add w y t)) p) (sym q) E in
         record { name = q; node = same-head n x y s t a b′ E′; rest = same-rest n x y s t a b′ E′ }
 
-ext-end : (m : Name) (y : Node) (t : Forest) → Present y → Above m t → ((k : Name) (p : TreePath) → value (find k end) p ≡ value (find k (add m y t)) p) → ⊥
+ext-end : (m : Name) (y : Node) (t : Forest) → Present y → Above m t
+    → ((k : Name) (p : TreePath) → value (find k end) p ≡ value (find k (add m y t)) p) → ⊥
 unfolding value at find
 ext-end m y t h b E = present-top y h (sym (rw (find-add-same m y t (find-above m t b)) at (E m [])))
 
