@@ -20,3 +20,4 @@ pub mod Resume
 pub mod Close
 pub mod Distinct
 pub mod Rules
+pub mod Merge
