@@ -5,10 +5,10 @@ use mathlib.Core.Bool.{true, _||_}
 use lib.Dec.{isEq}
 use Prim.Native.Nat.{Ordering, Ordering·lt, Ordering·eq, Ordering·gt}
 use Rattle.tree.specs.Name.{Name, cmp, ifSame}
-use Rattle.tree.specs.Forest.{Forest, Forest.end, Forest.leaf, Forest.dir, Node, Node.absent, Node.file, Node.folder, find, add, Above, Sorted}
+use Rattle.tree.specs.Forest.{Forest, Forest.end, Forest.leaf, Forest.dir, Node, Node.absent, Node.file, Node.folder, find, add, Above, Sorted, Present}
 use Rattle.tree.proofs.Never.{never}
 use Rattle.tree.proofs.Order.{cmp-refl, cmp-eq}
-use Rattle.tree.proofs.Forest.{Present, siblings-ind, find-add, above-add, sorted-parts, above-trans, find-above, Differ, find-add-other}
+use Rattle.tree.proofs.Forest.{siblings-ind, find-add, above-add, sorted-parts, above-trans, find-above, Differ, find-add-other}
 use Rattle.settle.specs.Names.{Names, into, names}
 use Rattle.settle.specs.Plan.{Plan.done, Entry, addItem, planOver, settleIn, plan, settle}
 use Rattle.settle.proofs.Names.{has, has-names, Over, over-insert, Asc, asc-names, asc-ext}

@@ -4,10 +4,10 @@ use mathlib.Core.List.{[], _∷_}
 use mathlib.Core.Path.{_∙_, _≡_, ap, refl, subst, sym}
 use lib.Dec.{isEq}
 use Prim.Native.Nat.{Ordering, Ordering·eq, Ordering·gt, Ordering·lt}
-use Rattle.tree.specs.Forest.{Above, Forest, Forest.dir, Forest.end, Forest.leaf, Node, Node.absent, Node.file, Node.folder, Sorted, SortedNode, add, find}
+use Rattle.tree.specs.Forest.{Above, Forest, Forest.dir, Forest.end, Forest.leaf, Node, Node.absent, Node.file, Node.folder, Sorted, SortedNode, add, find, Present}
 use Rattle.tree.specs.Name.{Name, byOrder, cmp, ifSame}
 use Rattle.tree.proofs.Never.{never}
-use Rattle.tree.proofs.Forest.{Present, above-add, find-add-same, find-add-other, sorted-add}
+use Rattle.tree.proofs.Forest.{above-add, find-add-same, find-add-other, sorted-add}
 use Rattle.tree.proofs.Order.{cmp-eq, cmp-flip, cmp-refl, cmp-trans, flip}
 use Rattle.settle.specs.Names.{Names, insert, into, names}
 

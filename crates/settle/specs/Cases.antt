@@ -27,9 +27,6 @@ f = contents 8
 abbrev g : Content
 g = contents 9
 
-abbrev h : Content
-h = contents 10
-
 -- p, x, y; L, R, d1, d2, d3
 abbrev p : Name
 p = short 0x70000000
@@ -80,15 +77,12 @@ p/x=f+p/y=g = dir p (leaf x f (leaf y g end)) end
 abbrev ears : Forest → Forest → Forest
 ears l r = dir L l (dir R r end)
 
--- left in C12, and in C13 after its second line's move; right in both; the archive before
+-- left in C12; right and the archive in C12 and C13, whose left has lost d2
 abbrev left₁₂ : Forest
 left₁₂ = ears (leaf d1 g (leaf d2 f (leaf d3 f end))) end
 
-abbrev left₁₃ : Forest
-left₁₃ = ears (leaf d1 g (leaf d3 f end)) end
-
 abbrev right₁₂ : Forest
-right₁₂ = ears (leaf d1 h (leaf d3 f end)) (leaf d1 f end)
+right₁₂ = ears (leaf d1 (contents 10) (leaf d3 f end)) (leaf d1 f end)
 
 abbrev archive₁₂ : Forest
 archive₁₂ = ears (leaf d1 f (leaf d2 f end)) end
@@ -118,7 +112,7 @@ cases =
     case p=f p/x=f p/y=g (line (p ∷ x ∷ []) rightGets ∷ line (p ∷ y ∷ []) leftGets ∷ []) p/x=f+p/y=g p/x=f+p/y=g p/x=f+p/y=g ∷
     case archive₁₂ left₁₂ right₁₂ (line (L ∷ d1 ∷ []) clash ∷ line (L ∷ d2 ∷ []) leftGets ∷ line
     (R ∷ d1 ∷ []) leftGets ∷ []) newArchive₁₂ newLeft₁₂ right₁₂ ∷
-    case archive₁₂ left₁₃ right₁₂ (line (L ∷ d1 ∷ []) clash ∷ line (R ∷ d1 ∷ []) leftGets ∷ []) newArchive₁₂ newLeft₁₂ right₁₂ ∷
+    case archive₁₂ (ears (leaf d1 g (leaf d3 f end)) end) right₁₂ (line (L ∷ d1 ∷ []) clash ∷ line (R ∷ d1 ∷ []) leftGets ∷ []) newArchive₁₂ newLeft₁₂ right₁₂ ∷
     []
 
 -- every case gives what its row says

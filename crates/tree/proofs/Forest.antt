@@ -4,13 +4,8 @@ use mathlib.Core.Path.{_≡_, refl}
 use mathlib.Core.List.{[], _∷_}
 use Prim.Native.Nat.{Ordering, Ordering·lt, Ordering·eq, Ordering·gt}
 use Rattle.tree.specs.Name.{Name, cmp, ifSame}
-use Rattle.tree.specs.Forest.{TreePath, Forest, Forest.end, Forest.leaf, Forest.dir, Node, Node.absent, Node.file, Node.folder, find, kids, at, add, Above, Sorted, SortedNode}
+use Rattle.tree.specs.Forest.{TreePath, Forest, Forest.end, Forest.leaf, Forest.dir, Node, Node.absent, Node.file, Node.folder, find, kids, at, add, Above, Sorted, SortedNode, Present}
 use Rattle.tree.proofs.Order.{cmp-refl, cmp-trans}
-
-abbrev pub Present : Node → Type 0
-Present absent = ⊥
-Present (file c) = Unit {0}
-Present (folder f) = Unit {0}
 
 module _ (P : Forest → Type 0) (none : P end) (more : (m : Name) (y : Node) (s : Forest) → Present y → P s → P (add m y s)) where
   pub siblings-ind : (f : Forest) → P f

@@ -3,11 +3,11 @@ use mathlib.Core.Path.{_≡_, refl, ap, _∙_, sym}
 use mathlib.Core.List.{[], _∷_}
 use Prim.Native.Nat.{Ordering, Ordering·lt, Ordering·eq, Ordering·gt}
 use Rattle.tree.specs.Name.{Name, cmp, byOrder, ifSame}
-use Rattle.tree.specs.Forest.{TreePath, Forest, Forest.end, Node, Node.absent, Node.file, Node.folder, find, at, add, Above, Sorted, SortedNode}
+use Rattle.tree.specs.Forest.{TreePath, Forest, Forest.end, Node, Node.absent, Node.file, Node.folder, find, at, add, Above, Sorted, SortedNode, Present}
 use Rattle.tree.specs.Put.{update, put}
 use Rattle.tree.proofs.Never.{never}
 use Rattle.tree.proofs.Order.{flip, cmp-eq, cmp-flip}
-use Rattle.tree.proofs.Forest.{Present, siblings-ind, find-add, above-parts, above-add, sorted-parts, sorted-add, above-trans, find-above, find-add-same, Differ, find-add-other, sorted-find}
+use Rattle.tree.proofs.Forest.{siblings-ind, find-add, above-parts, above-add, sorted-parts, sorted-add, above-trans, find-above, find-add-same, Differ, find-add-other, sorted-find}
 
 pub update-add : (n m : Name) (x y : Node) (s : Forest) → Present y
     → update n x (add m y s) ≡ byOrder (cmp n m) (add n x (add m y s)) (add n x s) (add m y (update n x s))

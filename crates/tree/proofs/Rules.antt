@@ -5,10 +5,10 @@ use native.Mathlib.Omega.{arith}
 use lib.ListN.{length}
 use Prim.Native.Nat.{ℕ, suc, _+_, Ordering, Ordering·lt, Ordering·eq, Ordering·gt}
 use Rattle.tree.specs.Name.{Name, cmp, ifSame, byOrder}
-use Rattle.tree.specs.Forest.{Content, TreePath, Forest, Forest.end, Node, Node.absent, Node.file, Node.folder, find, kids, at, add}
+use Rattle.tree.specs.Forest.{Content, TreePath, Forest, Forest.end, Node, Node.absent, Node.file, Node.folder, find, kids, at, add, Present}
 use Rattle.tree.specs.Put.{update, put}
 use Rattle.tree.specs.Rules.{Within, WithinNode}
-use Rattle.tree.proofs.Forest.{Present, siblings-ind, find-add}
+use Rattle.tree.proofs.Forest.{siblings-ind, find-add}
 use Rattle.tree.proofs.Put.{update-add}
 
 -- k levels under a path

@@ -3,11 +3,11 @@ use mathlib.Core.List.{[], _∷_}
 use mathlib.Core.Path.{_∙_, _≡_, ap, refl, subst, sym}
 use Prim.Native.Nat.{Ordering, Ordering·lt, Ordering·eq, Ordering·gt}
 use Rattle.tree.specs.Name.{Name, cmp}
-use Rattle.tree.specs.Forest.{TreePath, Forest, Forest.end, Forest.leaf, Forest.dir, Node, Node.absent, Node.file, Node.folder, find, at, add, Above, Sorted, SortedNode}
+use Rattle.tree.specs.Forest.{TreePath, Forest, Forest.end, Forest.leaf, Forest.dir, Node, Node.absent, Node.file, Node.folder, find, at, add, Above, Sorted, SortedNode, Present}
 use Rattle.tree.specs.Value.{Value.none, top, value}
 use Rattle.tree.proofs.Never.{never}
 use Rattle.tree.proofs.Order.{flip, cmp-eq, cmp-flip}
-use Rattle.tree.proofs.Forest.{Present, above-trans, find-above, find-add-same, Differ, find-add-other}
+use Rattle.tree.proofs.Forest.{above-trans, find-above, find-add-same, Differ, find-add-other}
 
 present-top : {P : Type 0} (x : Node) → Present x → top x ≡ none → P
 present-top absent h e = absurd h

@@ -22,6 +22,11 @@ pub data Node : Type 0 where
   file : Content → Node
   folder : Forest → Node
 
+abbrev pub Present : Node → Type 0
+Present absent = ⊥
+Present (file c) = Unit {0}
+Present (folder f) = Unit {0}
+
 -- the entry called n
 unfoldable pub find : Name → Forest → Node
 find n end = absent
