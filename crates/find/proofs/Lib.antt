@@ -1,0 +1,2 @@
+-- Laws of runs and searches that callers cite.
+pub mod Walk

@@ -1,0 +1,2 @@
+-- Laws of following a path.
+pub mod Follow

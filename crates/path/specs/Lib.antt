@@ -1,0 +1,2 @@
+-- Where a path leads in a table.
+pub mod Follow

@@ -1,0 +1,3 @@
+-- Where the nodes of a tree stand among the rows of its table.
+pub mod Stands
+pub mod Around
