@@ -1,3 +1,4 @@
+-- `row::compare_names` meets its contract: the names are eight words of each row.
 use mathlib.Core.Path.{_∙_, ap₂}
 use mathlib.Core.List.{List}
 use Prim.Native.Nat.{ℕ}
@@ -8,7 +9,6 @@ use Rattle.row.proofs.Table.{name-part}
 use Rattle.row.proofs.compare_names.Statement.{statement}
 use Rattle.row.proofs.compare_names.Tie as tie
 
--- src/lib.rt:43:1
 returns : tie.Need-returns
 returns c =
     let s = c .before .before .before .before .before in

@@ -1,3 +1,4 @@
+-- `row::compare_words` meets its contract: the words before word k are the same.
 use mathlib.Core.Path.{_≡_, sym, ap, _∙_}
 use native.Mathlib.Omega.{arith}
 use lib.ListN.{length, drop}
@@ -15,28 +16,24 @@ Inv-loop a b k₀ k = (k ≤ length a) × (cmp a b ≡ cmp (drop k a) (drop k b)
 abbrev μ-loop : tie.MeasureT-loop
 μ-loop a b k₀ k = length a - k
 
--- src/lib.rt:32:13
 returns : tie.Need-returns Inv-loop μ-loop
 returns c =
     let l = c .before .before .before .before in
     let s = l .before in
     sym (ap ordered (l .loop .inv .1 ∙ cmp-less (s .args .a .now) (s .args .b .now) (l .loop .k) (search needs) (search needs) (c .if1 .taken)))
 
--- src/lib.rt:35:13
 returns-2 : tie.Need-returns-2 Inv-loop μ-loop
 returns-2 c =
     let l = c .before .before .before .before .before in
     let s = l .before in
     sym (ap ordered (l .loop .inv .1 ∙ cmp-greater (s .args .a .now) (s .args .b .now) (l .loop .k) (search needs) (search needs) (c .if2 .taken)))
 
--- src/lib.rt:28:5
 loop-again : tie.Need-loop-again Inv-loop μ-loop
 loop-again c =
     let l = c .before .before .before .before .before in
     let s = l .before in
     (search needs, l .loop .inv .1 ∙ cmp-next (s .args .a .now) (s .args .b .now) (l .loop .k) (search needs) (search needs) (omega arith))
 
--- src/lib.rt:23:1
 returns-3 : tie.Need-returns-3 Inv-loop μ-loop
 returns-3 c =
     let s = c .before .before in

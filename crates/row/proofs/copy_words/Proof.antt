@@ -1,3 +1,4 @@
+-- `row::copy_words` meets its contract: the words before word i are copied.
 use mathlib.Core.Path.{_≡_, refl, ap, _∙_}
 use native.Mathlib.Numerals.{add-one}
 use lib.ListN.{length, getD, set, length-set}
@@ -14,18 +15,15 @@ Inv-loop src dst₀ at i₀ dst i = (i ≤ length src) × (length dst ≡ length
 abbrev μ-loop : tie.MeasureT-loop
 μ-loop src dst₀ at i₀ dst i = length src - i
 
--- src/lib.rt:23:5
 loop-holds : tie.Need-loop-holds Inv-loop μ-loop
 loop-holds c = (search needs, search needs, paste-zero (c .args .dst .now) (c .args .at) (c .args .src .now))
 
--- src/lib.rt:23:5
 loop-again : tie.Need-loop-again Inv-loop μ-loop
 loop-again c =
     let l = c .before .before in
     let a = l .before .args in
     (search needs, simp length-set (search needs), ap (λ d. set d (a .at + l .loop .i) (getD (a .src .now) (l .loop .i) 0)) (l .loop .inv .2) ∙ rw add-one (paste-suc (a .dst .now) (a .at) (a .src .now) (l .loop .i) 0 (search needs) (search needs)))
 
--- src/lib.rt:18:1
 returns : tie.Need-returns Inv-loop μ-loop
 returns c =
     let l = c .before in

@@ -1,3 +1,4 @@
+-- `row::same_words` meets its contract: the words before word k are the same.
 use mathlib.Core.Path.{_≡_, sym, ap, _∙_}
 use mathlib.Core.List.{List}
 use lib.ListN.{length, drop, getD}
@@ -14,26 +15,22 @@ Inv-loop a b k₀ k = (k ≤ length a) × (sameWords a b ≡ sameWords (drop k a
 abbrev μ-loop : tie.MeasureT-loop
 μ-loop a b k₀ k = length a - k
 
--- src/lib.rt:127:9
 returns : tie.Need-returns Inv-loop μ-loop
 returns c =
     sym (same-differ (c .before .args .a .now) (c .before .args .b .now) (λ e. c .if1 .taken (ap length e)))
 
--- src/lib.rt:132:13
 returns-2 : tie.Need-returns-2 Inv-loop μ-loop
 returns-2 c =
     let l = c .before .before .before .before in
     let a = l .before .before .args in
     sym (same-differ (a .a .now) (a .b .now) (λ e. c .if2 .taken (ap (λ (w : List ℕ). getD w (l .loop .k) 0) e)))
 
--- src/lib.rt:130:5
 loop-again : tie.Need-loop-again Inv-loop μ-loop
 loop-again c =
     let l = c .before .before .before .before in
     let a = l .before .before .args in
     (search needs, l .loop .inv .1 ∙ same-next (a .a .now) (a .b .now) (l .loop .k) (search needs) (search needs) (c .if2 .left))
 
--- src/lib.rt:123:1
 returns-3 : tie.Need-returns-3 Inv-loop μ-loop
 returns-3 c =
     let l = c .before in

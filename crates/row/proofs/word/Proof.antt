@@ -1,10 +1,10 @@
+-- `row::word` meets its contract: word j of row i is word 20 i + j of the table.
 use mathlib.Core.Path.{sym}
 use borrow.Author.Needs.{needs}
 use Rattle.row.proofs.Table.{word-at}
 use Rattle.row.proofs.word.Statement.{statement}
 use Rattle.row.proofs.word.Tie as tie
 
--- src/lib.rt:15:1
 returns : tie.Need-returns
 returns c =
     let s = c .before in

@@ -1,0 +1,10 @@
+-- A check of a table has one outcome: two answers that keep its contract are the same.
+use mathlib.Core.Path.{_≡_}
+use mathlib.Core.List.{List}
+use Prim.Native.Nat.{ℕ}
+use Rattle.rules.specs.declared.Answer.{Answer}
+use Rattle.rules.specs.Contract.{CheckContract}
+use Rattle.rules.proofs.Says.{says-one}
+
+pub check-one : (t : List ℕ) (a b : Answer) → CheckContract t a → CheckContract t b → a ≡ b
+check-one t a b A B = says-one a b (A .says) (B .says)

@@ -1,0 +1,249 @@
+// The row rules: which row of a table is the lowest that breaks them, and the call that answers it.
+ghost use mathlib.Core.Path.{_≡_};
+ghost use mathlib.Core.List.{_∷_, []};
+ghost use Prim.Native.Nat.{ℕ, _+_, _-_, _*_, _≤_, _<_};
+ghost use lib.ListN.{length, drop, getD};
+ghost use Rattle.tree.specs.Rules.{zeros, bytes, zeroFilled, goodName};
+ghost use Rattle.row.specs.Table.{rowAt, name, depth};
+ghost use Rattle.rules.specs.Rules.{before, depthRule, kindRule, ascends, okRow, checked};
+ghost use Rattle.rules.specs.Refusal.{refusalOf};
+ghost use Rattle.rules.specs.Contract.{CheckContract};
+
+// The answer of a call that has one place.
+pub enum Answer {
+    Accepted {
+        place: usize,
+    },
+    Refused {
+        number: u32,
+        side: u32,
+        place: usize,
+    },
+}
+
+// What a check of a table finds.
+pub enum Checked {
+    Fine,
+    BadLength,
+    BadRow(usize),
+}
+
+// Whether every word is zero.
+pub fn all_zero(s: &[u32]) -> bool
+    ensures { λ r. ⌜ r ≡ zeros (now (s .entry)) ⌝ }
+{
+    let mut k = 0;
+    while k < s.len() {
+        if s[k] != 0 {
+            return false;
+        }
+        k += 1;
+    }
+    true
+}
+
+// Byte j of a word, the highest first.
+fn byte_of(x: u32, j: usize) -> u32
+    requires { ⌜ j < 4 ⌝ }
+    ensures { λ r. ⌜ r ≡ getD (bytes (x ∷ [])) j 0 ⌝ }
+{
+    if j == 0 {
+        return x / 16777216;
+    }
+    if j == 1 {
+        return x / 65536 % 256;
+    }
+    if j == 2 {
+        return x / 256 % 256;
+    }
+    x % 256
+}
+
+// Byte k of the words s.
+fn byte_at(s: &[u32], k: usize) -> u32
+    requires { ⌜ k < 4 * length (now s) ⌝ }
+    ensures { λ r. ⌜ r ≡ getD (bytes (now (s .entry))) k 0 ⌝ }
+{
+    byte_of(s[k / 4], k % 4)
+}
+
+// Whether the bytes of a name are zero from one on.
+fn zeros_from(s: &[u32], from: usize) -> bool
+    requires { ⌜ (length (now s) ≡ 8) × (from ≤ 32) ⌝ }
+    ensures { λ r. ⌜ r ≡ zeros (drop from (bytes (now (s .entry)))) ⌝ }
+{
+    let mut k = from;
+    while k < 32 {
+        if byte_at(s, k) != 0 {
+            return false;
+        }
+        k += 1;
+    }
+    true
+}
+
+// Whether a name has no byte 47, and no zero byte before one that is not zero.
+fn zero_filled(s: &[u32]) -> bool
+    requires { ⌜ length (now s) ≡ 8 ⌝ }
+    ensures { λ r. ⌜ r ≡ zeroFilled (bytes (now (s .entry))) ⌝ }
+{
+    let mut k = 0;
+    while k < 32 {
+        let b = byte_at(s, k);
+        if b == 0 {
+            return zeros_from(s, k + 1);
+        }
+        if b == 47 {
+            return false;
+        }
+        k += 1;
+    }
+    true
+}
+
+// Whether eight words are a name that an entry may have.
+pub fn good_name(s: &[u32]) -> bool
+    requires { ⌜ length (now s) ≡ 8 ⌝ }
+    ensures { λ r. ⌜ r ≡ goodName (now (s .entry)) ⌝ }
+{
+    let x = s[0];
+    if x == 0 {
+        return false;
+    }
+    if x == 0x2E000000 {
+        return false;
+    }
+    if x == 0x2E2E0000 {
+        return false;
+    }
+    zero_filled(s)
+}
+
+// Whether row i is not too deep, for any row and for the row before it.
+fn depth_ok(t: &[u32], i: usize) -> bool
+    requires { ⌜ (20 * i + 20 ≤ length (now t)) × (0 < i) ⌝ }
+    ensures { λ r. ⌜ r ≡ depthRule (rowAt (now (t .entry)) (i - 1)) (rowAt (now (t .entry)) i) ⌝ }
+{
+    let d = row::word(t, i, 0);
+    if d < 1 {
+        return false;
+    }
+    if 16 < d {
+        return false;
+    }
+    let e = row::word(t, i - 1, 0);
+    let k = row::word(t, i - 1, 1);
+    if k == 0 { d - 1 <= e } else { d <= e }
+}
+
+// Whether row i is a file's, or a folder's with no size and no digest.
+fn kind_ok(t: &[u32], i: usize) -> bool
+    requires { ⌜ 20 * i + 20 ≤ length (now t) ⌝ }
+    ensures { λ r. ⌜ r ≡ kindRule (rowAt (now (t .entry)) i) ⌝ }
+{
+    let k = row::word(t, i, 1);
+    if k == 0 {
+        let a = 20 * i + 10;
+        let b = 20 * i + 20;
+        return all_zero(&t[a..b]);
+    }
+    k == 1
+}
+
+// Whether the sibling before row i, if there is one, has a smaller name.
+fn ascending(t: &[u32], i: usize) -> bool
+    requires { ⌜ 20 * i + 20 ≤ length (now t) ⌝ }
+    ensures { λ r. ⌜ r ≡ ascends (depth (rowAt (now (t .entry)) i)) (name (rowAt (now (t .entry)) i)) (before (now (t .entry)) i) ⌝ }
+{
+    let d = row::word(t, i, 0);
+    let mut j = i;
+    while 0 < j {
+        let e = row::word(t, j - 1, 0);
+        if e < d {
+            return true;
+        }
+        if e == d {
+            let c = row::compare_names(t, j - 1, t, i);
+            return match c {
+                row::Order::Less => true,
+                row::Order::Same => false,
+                row::Order::Greater => false,
+            };
+        }
+        j -= 1;
+    }
+    true
+}
+
+// Whether row i may follow the rows before it.
+fn row_ok(t: &[u32], i: usize) -> bool
+    requires { ⌜ 20 * i + 20 ≤ length (now t) ⌝ }
+    ensures { λ r. ⌜ r ≡ okRow (before (now (t .entry)) i) (rowAt (now (t .entry)) i) ⌝ }
+{
+    let a = 20 * i;
+    let b = a + 20;
+    if i == 0 {
+        return all_zero(&t[a..b]);
+    }
+    let p = a + 2;
+    let q = p + 8;
+    if depth_ok(t, i) {
+        if good_name(&t[p..q]) {
+            if kind_ok(t, i) {
+                return ascending(t, i);
+            }
+        }
+    }
+    false
+}
+
+// What is wrong with a table: its length, or the lowest row that breaks the rules.
+pub fn check(t: &[u32]) -> Checked
+    ensures { λ r. ⌜ r ≡ checked (now (t .entry)) ⌝ }
+{
+    let n = t.len() / 20;
+    if t.len() % 20 != 0 {
+        return Checked::BadLength;
+    }
+    if n < 1 {
+        return Checked::BadLength;
+    }
+    if 4096 < n {
+        return Checked::BadLength;
+    }
+    let mut i = 0;
+    while i < n {
+        if row_ok(t, i) {
+            i += 1;
+        } else {
+            return Checked::BadRow(i);
+        }
+    }
+    Checked::Fine
+}
+
+// The answer to a table of a side: numbers 1 and 2.
+pub fn refusal(c: Checked, side: u32) -> Answer
+    ensures { λ r. ⌜ r ≡ refusalOf c side ⌝ }
+{
+    match c {
+        Checked::Fine => Answer::Accepted { place: 0 },
+        Checked::BadLength => Answer::Refused {
+            number: 1,
+            side,
+            place: 0,
+        },
+        Checked::BadRow(i) => Answer::Refused {
+            number: 2,
+            side,
+            place: i,
+        },
+    }
+}
+
+// Whether a table keeps the rules: numbers 1 and 2, side 1.
+pub fn check_table(t: &[u32]) -> Answer
+    ensures { λ r. ⌜ CheckContract (now (t .entry)) r ⌝ }
+{
+    refusal(check(t), 1)
+}
