@@ -1,0 +1,175 @@
+-- What every line keeps of the reader's state, from which the tree so far could be accepted; and what lines other than
+-- entries do to it.
+use mathlib.Core.Bool.{Bool, _&&_, cond, false, true}
+use mathlib.Core.List.{List, [], _++_, _∷_}
+use mathlib.Core.Path.{_∙_, _≡_, ap, refl, sym}
+use native.Mathlib.Omega.{arith}
+use lib.Dec.{ltb}
+use lib.ListN.{getD, length, length-set, length-take, take}
+use lib.Seq.{take-length, take-suc}
+use Prim.Native.Nat.{ℕ, suc, zero, _-_, _<_, _≤_}
+use borrow.Author.Tests.{ltb-true}
+use Rattle.tree.specs.Name.{Name}
+use Rattle.tree.specs.Forest.{Forest, Forest.end, Node, Node.absent, Node.file, Node.folder, Sorted, TreePath, at, size}
+use Rattle.tree.specs.Rules.{ContentRule, NameRule, Within}
+use Rattle.tree.specs.Same.{sameWords}
+use Rattle.tree.proofs.Same.{and-true}
+use Rattle.listing.specs.Accepted.{Fit}
+use Rattle.listing.specs.Bytes.{text}
+use Rattle.listing.specs.Words.{Words, values}
+use Rattle.listing.specs.Values.{contentOf, digestOf, isDigest, isSize, sizeOf}
+use Rattle.listing.specs.Entries.{Entry, Entry.faulty, Entry.holds, Said, Said.isDir, Said.isFile, Said.isOther, Said.none, Said.twice, entryAs, oneEach, rootAs, typeIn}
+use Rattle.listing.specs.Reading.{State, State.before, State.closed, State.inside, Step, Step.goes, Step.stops, close, closeLine, front, isEmpty, rooted, rootLine, setLine, setTo, slashLine, unsetLine, withDefault}
+use Rattle.listing.proofs.Grown.{All, IsFolder, IsThere, folder-above}
+use Rattle.listing.proofs.Ruled.{content-rule}
+
+-- the open path leads to a folder of a tree that fits, and each open folder has its default
+pub record Inside (most : ℕ) (f : Forest) (p : TreePath) (ds : List Said) : Type 0 where
+  pub fit : Fit most f
+  pub here : IsFolder (at (folder f) p)
+  pub named : All NameRule p
+  pub deep : length p ≤ 16
+  pub each : length ds ≡ suc (length p)
+
+abbrev pub GoodState : ℕ → State → Type 0
+GoodState most (before d) = Unit {0}
+GoodState most (inside f p ds) = Inside most f p ds
+GoodState most (closed f) = Fit most f
+
+abbrev pub GoodStep : ℕ → Step → Type 0
+GoodStep most (stops n) = Unit {0}
+GoodStep most (goes s) = GoodState most s
+
+-- what an entry may hold
+abbrev pub GoodEntry : Entry → Type 0
+GoodEntry (faulty n) = Unit {0}
+GoodEntry (holds absent) = ⊥
+GoodEntry (holds (file c)) = ContentRule c
+GoodEntry (holds (folder k)) = k ≡ end
+
+one-each : (ss ds : Words) → GoodEntry (oneEach ss ds)
+one-each [] ds = tt
+one-each (s ∷ []) [] = tt
+one-each (s ∷ []) (d ∷ []) = go (isSize s && isDigest d) refl
+  where
+    go : (t : Bool) → isSize s && isDigest d ≡ t → GoodEntry (cond t (holds (file (contentOf (sizeOf s) (digestOf d)))) (faulty 9))
+    go true e = let q = and-true (isSize s) (isDigest d) e in content-rule s d (q .0) (q .1)
+    go false e = tt
+one-each (s ∷ []) (d ∷ e ∷ ds) = tt
+one-each (s ∷ r ∷ ss) ds = tt
+
+pub entry-good : (t : Said) (ws : Words) → GoodEntry (entryAs t ws)
+entry-good none ws = tt
+entry-good isDir ws = refl
+entry-good isFile ws = one-each (values (text "size") ws) (values (text "sha256digest") ws)
+entry-good isOther ws = tt
+entry-good twice ws = tt
+
+pub root-good : (t : Said) → GoodEntry (rootAs t)
+root-good none = tt
+root-good isDir = refl
+root-good isFile = tt
+root-good isOther = tt
+root-good twice = tt
+
+module _ (most : ℕ) where
+  good-default : (v : Said) (s : State) → GoodState most s → GoodState most (withDefault v s)
+  good-default v (before d) h = tt
+  good-default v (inside f p ds) h =
+      record { fit = h .fit; here = h .here; named = h .named; deep = h .deep; each = length-set ds _ v ∙ h .each }
+  good-default v (closed f) h = h
+
+  good-set : (t : Said) (s : State) → GoodState most s → GoodStep most (setTo t s)
+  good-set none s h = h
+  good-set isDir s h = good-default isDir s h
+  good-set isFile s h = good-default isFile s h
+  good-set isOther s h = tt
+  good-set twice s h = tt
+
+  pub good-cond : (t : Bool) (x y : Step) → GoodStep most x → GoodStep most y → GoodStep most (cond t x y)
+  good-cond true x y p q = p
+  good-cond false x y p q = q
+
+  good-setting : (ws : Words) (s : State) → GoodState most s → GoodStep most (setLine ws s)
+  unfolding setLine
+  good-setting ws s h =
+      good-cond (isEmpty (values (text "size") ws) && isEmpty (values (text "sha256digest") ws)) _ (stops 9) (good-set (typeIn none ws) s h) tt
+
+  good-clearing : (ws : Words) (s : State) → GoodState most s → GoodStep most (unsetLine ws s)
+  unfolding unsetLine
+  good-clearing ws s h = go (isEmpty (values (text "type") ws) && isEmpty (values (text "all") ws))
+    where
+      go : (t : Bool) → GoodState most (cond t s (withDefault none s))
+      go true = h
+      go false = good-default none s h
+
+  pub good-slash : (w : List ℕ) (ws : Words) (s : State) → GoodState most s → GoodStep most (slashLine w ws s)
+  unfolding slashLine
+  good-slash w ws s h =
+      good-cond (sameWords w (text "/set")) _ _ (good-setting ws s h)
+      (good-cond (sameWords w (text "/unset")) _ (stops 9) (good-clearing ws s h) tt)
+
+all-take : (P : Name → Type 0) (k : ℕ) (p : TreePath) → All P p → All P (take k p)
+unfolding All
+all-take P zero [] h = tt
+all-take P zero (n ∷ p) h = tt
+all-take P (suc k) [] h = tt
+all-take P (suc k) (n ∷ p) h = (h .0, all-take P k p (h .1))
+
+pub all-last : (P : Name → Type 0) (p : TreePath) (n : Name) → All P p → P n → All P (p ++ (n ∷ []))
+unfolding All
+all-last P [] n h q = (q, tt)
+all-last P (m ∷ p) n h q = (h .0, all-last P p n (h .1) q)
+
+there-of : (x : Node) → IsFolder x → IsThere x
+there-of absent h = h
+there-of (file c) h = tt
+there-of (folder k) h = tt
+
+split-last : (p : TreePath) → 0 < length p → p ≡ front p ++ (getD p (length p - 1) [] ∷ [])
+split-last p h =
+    let e : suc (length p - 1) ≡ length p = omega arith in
+    let lt : length p - 1 < length p = omega arith in
+    sym (take-length p) ∙ ap (λ (k : ℕ). take k p) (sym e) ∙ take-suc p (length p - 1) [] lt
+
+module _ (most : ℕ) where
+  good-close : (f : Forest) (p : TreePath) (ds : List Said) → Inside most f p ds → GoodState most (close f p ds)
+  good-close f [] ds h = h .fit
+  good-close f (n ∷ p) ds h =
+      let q : TreePath = n ∷ p in
+      let there : IsThere (at (folder f) (front q ++ (getD q (length q - 1) [] ∷ []))) = rw (split-last q (omega arith)) at (there-of (at (folder f) q) (h .here)) in
+      let deep = h .deep in
+      let each = h .each in
+      let named : All NameRule (front q) = all-take NameRule (length q - 1) q (h .named) in
+      record {
+        fit = h .fit;
+        here = folder-above (front q) _ (folder f) there;
+        named = named;
+        deep = omega (arith, length-take (length q - 1) q);
+        each = omega (arith, length-take (length q - 1) q, length-take (length ds - 1) ds);
+      }
+
+  pub good-closing : (ws : Words) (s : State) → GoodState most s → GoodStep most (closeLine ws s)
+  unfolding closeLine
+  good-closing ws (before d) h = tt
+  good-closing ws (inside f p ds) h = good-cond most (isEmpty ws) (goes (close f p ds)) (stops 9) (good-close f p ds h) tt
+  good-closing ws (closed f) h = tt
+
+  root-state : (d : Said) → 0 < most → Inside most end [] (d ∷ [])
+  unfolding Sorted Within All at size
+  root-state d h =
+      record { fit = record { good = record { sorted = tt; within = tt }; room = h }; here = tt; named = tt; deep = omega arith; each = refl }
+
+  good-rooted : (d : Said) (x : Entry) → GoodStep most (rooted most d x)
+  good-rooted d (faulty k) = tt
+  good-rooted d (holds x) = go (ltb 0 most) refl
+    where
+      go : (t : Bool) → ltb 0 most ≡ t → GoodStep most (cond t (goes (inside end [] (d ∷ []))) (stops 3))
+      go true e = root-state d (ltb-true 0 most e)
+      go false e = tt
+
+  pub good-root : (ws : Words) (s : State) → GoodStep most (rootLine most ws s)
+  unfolding rootLine
+  good-root ws (before d) = good-rooted d (rootAs (typeIn d ws))
+  good-root ws (inside f p ds) = tt
+  good-root ws (closed f) = tt

@@ -1,0 +1,182 @@
+-- Reading a listing: what a line does to the reader's state, and what a whole text answers.
+use mathlib.Core.List.{List, [], _∷_, _++_}
+use mathlib.Core.Bool.{Bool, true, false, cond, _&&_}
+use lib.ListN.{length, take, getD, set}
+use lib.Dec.{ltb, leb, eqb}
+use Prim.Native.Nat.{ℕ, suc, _-_, _/_, min}
+use Rattle.tree.specs.Name.{Name}
+use Rattle.tree.specs.Forest.{TreePath, Forest, Forest.end, Node, Node.absent, Node.file, Node.folder, kids, at, size}
+use Rattle.tree.specs.Same.{sameWords}
+use Rattle.tree.specs.Put.{put}
+use Rattle.listing.specs.Bytes.{text}
+use Rattle.listing.specs.Lines.{Line, lines}
+use Rattle.listing.specs.Words.{Words, words, values, isText}
+use Rattle.listing.specs.Names.{isName, nameOf}
+use Rattle.listing.specs.Entries.{Said, Said.none, Said.isDir, Said.isFile, Said.isOther, Said.twice, Entry, Entry.faulty, Entry.holds, typeIn, entryOf, rootAs}
+
+-- before the root is listed: the default set so far. Inside it: the tree so far, the names of the open folders below the
+-- root, and the default type of each open folder, the root's first. After it has closed: the tree
+pub data State : Type 0 where
+  before : Said → State
+  inside : Forest → TreePath → List Said → State
+  closed : Forest → State
+
+-- what a line does: a fault, or the state after it
+pub data Step : Type 0 where
+  stops : ℕ → Step
+  goes : State → Step
+
+-- the default of the folder last opened
+abbrev pub inForce : List Said → Said
+inForce ds = getD ds (length ds - 1) none
+
+-- without what was opened last
+abbrev pub front : {A : Type 0} → List A → List A
+front l = take (length l - 1) l
+
+-- after the root has closed nothing changes
+abbrev pub withDefault : Said → State → State
+withDefault v (before d) = before v
+withDefault v (inside f p ds) = inside f p (set ds (length ds - 1) v)
+withDefault v (closed f) = closed f
+
+-- no word
+abbrev pub isEmpty : Words → Bool
+isEmpty [] = true
+isEmpty (w ∷ ws) = false
+
+-- a /set line by its type: a bad one is 10, a doubled one 9
+abbrev pub setTo : Said → State → Step
+setTo none s = goes s
+setTo isDir s = goes (withDefault isDir s)
+setTo isFile s = goes (withDefault isFile s)
+setTo isOther s = stops 10
+setTo twice s = stops 9
+
+-- /set: size and sha256digest are refused, other words skipped
+unfoldable pub setLine : Words → State → Step
+setLine ws s =
+    cond (isEmpty (values (text "size") ws) && isEmpty (values (text "sha256digest") ws)) (setTo (typeIn none ws) s) (stops 9)
+
+-- /unset: type and all clear the default
+unfoldable pub unsetLine : Words → State → Step
+unsetLine ws s =
+    goes (cond (isEmpty (values (text "type") ws) && isEmpty (values (text "all") ws)) s (withDefault none s))
+
+-- an unknown / word is 9
+unfoldable pub slashLine : List ℕ → Words → State → Step
+slashLine w ws s =
+    cond (sameWords w (text "/set")) (setLine ws s) (cond (sameWords w (text "/unset")) (unsetLine ws s) (stops 9))
+
+-- the folder last opened is closed, the root included
+abbrev pub close : Forest → TreePath → List Said → State
+close f [] ds = closed f
+close f (n ∷ p) ds = inside f (front (n ∷ p)) (front ds)
+
+-- .. stands alone: 11, 9
+unfoldable pub closeLine : Words → State → Step
+closeLine ws (before d) = stops 11
+closeLine ws (inside f p ds) = cond (isEmpty ws) (goes (close f p ds)) (stops 9)
+closeLine ws (closed f) = stops 11
+
+-- the root, where there is room for its row
+abbrev pub rooted : ℕ → Said → Entry → Step
+rooted most d (faulty k) = stops k
+rooted most d (holds x) = cond (ltb 0 most) (goes (inside end [] (d ∷ []))) (stops 3)
+
+-- . is the first entry: 11, 9 or 10, 3
+unfoldable pub rootLine : ℕ → Words → State → Step
+rootLine most ws (before d) = rooted most d (rootAs (typeIn d ws))
+rootLine most ws (inside f p ds) = stops 11
+rootLine most ws (closed f) = stops 11
+
+-- a folder entry opens itself, with the default in force
+abbrev pub opened : Name → Node → Forest → TreePath → List Said → State
+opened n absent f p ds = inside f p ds
+opened n (file c) f p ds = inside f p ds
+opened n (folder k) f p ds = inside f (p ++ (n ∷ [])) (ds ++ (inForce ds ∷ []))
+
+-- nothing stands there
+abbrev pub isAbsent : Node → Bool
+isAbsent absent = true
+isAbsent (file c) = false
+isAbsent (folder k) = false
+
+-- an entry of that name in the folder last opened: 14, 13, 3
+unfoldable pub placed : ℕ → Name → Node → Forest → TreePath → List Said → Step
+placed most n x f p ds =
+    cond (leb 16 (length p)) (stops 14)
+    (cond (isAbsent (at (folder f) (p ++ (n ∷ []))))
+    (cond (ltb (suc (size f)) most) (goes (opened n x (kids (put (p ++ (n ∷ [])) x (folder f))) p ds)) (stops 3))
+    (stops 13))
+
+-- an entry, by what its words make of it
+abbrev pub entered : ℕ → Name → Entry → Forest → TreePath → List Said → Step
+entered most n (faulty k) f p ds = stops k
+entered most n (holds x) f p ds = placed most n x f p ds
+
+-- any other entry: 11, 8, 9 or 10, then its place
+unfoldable pub entryLine : ℕ → List ℕ → Words → State → Step
+entryLine most w ws (before d) = stops 11
+entryLine most w ws (inside f p ds) = cond (isName w) (entered most (nameOf w) (entryOf (inForce ds) ws) f p ds) (stops 8)
+entryLine most w ws (closed f) = stops 11
+
+-- a line by its words, and whether all its bytes are text: blank lines and comments are skipped, then 7 comes first
+unfoldable pub wordsDo : ℕ → Bool → Words → State → Step
+wordsDo most good [] s = goes s
+wordsDo most good (w ∷ ws) s =
+    cond (eqb (getD w 0 0) 35) (goes s)
+    (cond good
+    (cond (eqb (getD w 0 0) 47) (slashLine w ws s)
+    (cond (sameWords w (text "..")) (closeLine ws s)
+    (cond (sameWords w (text ".")) (rootLine most ws s) (entryLine most w ws s))))
+    (stops 7))
+
+-- a line, by its bytes
+abbrev pub lineDoes : ℕ → List ℕ → State → Step
+lineDoes most line s = wordsDo most (isText line) (words line) s
+
+-- a number and a line, or the tree
+pub data Outcome : Type 0 where
+  refused : ℕ → ℕ → Outcome
+  accepted : Forest → Outcome
+
+-- what a caller gets
+pub record Answer : Type 0 where
+  pub number : ℕ
+  pub side : ℕ
+  pub place : ℕ
+
+-- a refusal's place is the line, an accepted tree's its rows
+abbrev pub answerOf : Outcome → Answer
+answerOf (refused n line) = record { number = n; side = 0; place = line }
+answerOf (accepted f) = record { number = 0; side = 0; place = suc (size f) }
+
+-- folders may be open at the end
+abbrev pub ended : State → Outcome
+ended (before d) = refused 12 0
+ended (inside f p ds) = accepted f
+ended (closed f) = accepted f
+
+-- a fault ends the run at its line
+abbrev pub onStep : Step → ℕ → (State → Outcome) → Outcome
+onStep (stops n) line k = refused n line
+onStep (goes s) line k = k s
+
+-- the lines in turn, up to the first faulty one
+unfoldable pub run : ℕ → List Line → State → Outcome
+run most [] s = ended s
+run most (l ∷ ls) s = onStep (lineDoes most (l .bytes) s) (l .number) (λ t. run most ls t)
+
+-- the last byte is LF, unless there is none
+abbrev pub endsInLF : List ℕ → Bool
+endsInLF t = eqb (getD t (length t - 1) 10) 10
+
+-- whole rows of the room, at most 4,096
+abbrev pub mostRows : ℕ → ℕ
+mostRows room = min 4096 (room / 20)
+
+-- a text read into a table of that many words
+unfoldable pub reading : List ℕ → ℕ → Outcome
+reading t room =
+    cond (leb (length t) 65536 && endsInLF t) (run (mostRows room) (lines t) (before none)) (refused 6 0)
