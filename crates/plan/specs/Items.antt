@@ -40,3 +40,10 @@ itemWords o l r (line p d) = kind d ∷ rowOf o p ∷ rowOf l p ∷ rowOf r p �
 
 unfoldable pub planWords : Forest → Forest → Forest → List ℕ
 planWords o l r = wordsOf (itemWords o l r) (items (plan o l r))
+
+-- the list's words: for each line the kind, and the rows of left and right
+abbrev pub entryWords : Forest → Forest → Line → List ℕ
+entryWords l r (line p d) = kind d ∷ rowOf l p ∷ rowOf r p ∷ []
+
+abbrev pub listWords : Forest → Forest → Lines → List ℕ
+listWords l r xs = wordsOf (entryWords l r) xs

@@ -2,6 +2,7 @@
 pub mod Words
 pub mod Rows
 pub mod Says
+pub mod Faults
 pub mod OneOutcome
 pub mod Good
 pub mod Sorted

@@ -3,3 +3,4 @@ pub mod Rules
 pub mod Answer
 pub mod Refusal
 pub mod Contract
+pub mod Faults

@@ -1,11 +1,17 @@
 -- The new trees keep the rules for names and contents, and the depth.
 use mathlib.Core.List.{[], _∷_}
-use mathlib.Core.Path.{_≡_, refl}
-use Prim.Native.Nat.{Ordering, Ordering·eq, Ordering·gt, Ordering·lt, suc, zero, ℕ}
-use Rattle.tree.specs.Forest.{Content, Forest, Forest.dir, Forest.end, Forest.leaf, Node, Node.folder, find, kids}
+use mathlib.Core.Path.{_≡_, refl, _∙_}
+use native.Mathlib.Omega.{arith}
+use lib.ListN.{length}
+use Prim.Native.Nat.{Ordering, Ordering·eq, Ordering·gt, Ordering·lt, suc, zero, ℕ, _+_, _-_, _≤_}
+use Rattle.tree.specs.Forest.{Content, Forest, Forest.dir, Forest.end, Forest.leaf, Node, Node.folder, find, kids, TreePath, at}
 use Rattle.tree.specs.Name.{Name, byOrder, cmp}
 use Rattle.tree.specs.Rules.{Within, WithinNode, NameRule, ContentRule, WellFormed}
-use Rattle.tree.proofs.Rules.{within-find, within-kids, within-add}
+use Rattle.tree.specs.Put.{put}
+use Rattle.tree.proofs.Rules.{under, under-length, NamesOf, within-find, within-kids, within-add, within-at, within-put}
+use Rattle.tree.proofs.Forest.{sorted-kids, sorted-at}
+use Rattle.tree.proofs.Put.{sorted-put}
+use Rattle.settle.specs.Resume.{moved}
 use Rattle.settle.specs.Decision.{decide}
 use Rattle.settle.specs.Names.{Names, insert, into, names}
 use Rattle.settle.specs.Plan.{plan, planOver, settle, settleIn}
@@ -103,3 +109,17 @@ module _ (o l r : Forest) (wo : WellFormed o) (wl : WellFormed l) (wr : WellForm
   pub well-formed-archive : WellFormed (newArchive o l r)
   unfolding newArchive
   well-formed-archive = well-formed-new toArchive (settles archive)
+
+-- and so is the tree after a move along a path whose names keep the rule, of at most 16 of them
+pub well-formed-moved : (p : TreePath) (s t : Forest) → NamesOf NameRule ContentRule p → length p ≤ 16 → WellFormed s → WellFormed t → WellFormed (moved p s t)
+well-formed-moved p s t n h ws wt =
+    let k = 16 - length p in
+    let e : under p k ≡ 16 = under-length p k ∙ (let z : length p + k ≡ 16 = omega arith in z) in
+    let a : WithinNode NameRule ContentRule k (at (folder s) p) = within-at NameRule ContentRule k p (folder s) (rw e (ws .within)) in
+    let b : WithinNode NameRule ContentRule (under p k) (put p (at (folder s) p) (folder t)) =
+    within-put NameRule ContentRule k p (at (folder s) p) (folder t) n a (rw e (wt .within)) in
+    record {
+      sorted = sorted-kids (put p (at (folder s) p) (folder t))
+          (sorted-put p (at (folder s) p) (folder t) (sorted-at p (folder s) (ws .sorted)) (wt .sorted));
+      within = within-kids NameRule ContentRule 16 (put p (at (folder s) p) (folder t)) (rw e at b);
+    }

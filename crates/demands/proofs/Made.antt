@@ -1,0 +1,95 @@
+-- Accepted calls of make_move, one after the other, leave the tables of the trees that the moves leave.
+use mathlib.Core.Path.{_≡_, ap, subst, _∙_}
+use mathlib.Core.List.{List, [], _∷_}
+use mathlib.Core.Bool.{true, _&&_}
+use native.Mathlib.Omega.{arith}
+use lib.Dec.{leb}
+use lib.ListN.{length, take, drop, length-take}
+use lib.Seq.{take-at}
+use Prim.Native.Nat.{ℕ, zero, suc, _*_, _/_, _≤_}
+use borrow.Author.Tests.{leb-true}
+use Rattle.tree.specs.Name.{Name}
+use Rattle.tree.specs.Forest.{TreePath, Forest, size}
+use Rattle.tree.specs.Rules.{goodName, NameRule, ContentRule}
+use Rattle.settle.specs.Decision.{Decision.agreed, Decision.leftGets, Decision.rightGets, Decision.clash}
+use Rattle.settle.specs.Results.{Line.line, Lines}
+use Rattle.settle.specs.Resume.{Sides, moved, after}
+use Rattle.row.specs.Buffer.{over}
+use Rattle.row.specs.Tree.{table}
+use Rattle.rules.specs.declared.Answer.the-variants.{Accepted}
+use Rattle.rules.specs.Refusal.{refusalOf}
+use Rattle.rules.specs.Rules.{checked}
+use Rattle.moves.specs.Path.{pathOf, slots, pathRule}
+use Rattle.rules.specs.Faults.{unless, roomRule}
+use Rattle.moves.specs.Move.{parentRule, movedWords, moveDue}
+use Rattle.tree.proofs.Same.{and-true}
+use Rattle.tree.proofs.Rules.{NamesOf}
+use Rattle.settle.proofs.Rules.{well-formed-moved}
+use Rattle.row.proofs.Tree.{length-table}
+use Rattle.rules.proofs.Faults.{first-passed, first-last, unless-true, room-parts}
+use Rattle.demands.specs.Demand3.{Slots, Made, Tables, AllCarried}
+use Rattle.demands.proofs.Tab.{Tab, tab-tree}
+
+-- the names of a path that passed keep the rule
+names-ruled : (n : ℕ) (ms : List Name) → Slots ms → slots n ms ≡ true → NamesOf NameRule ContentRule (take n ms)
+unfolding Slots slots NamesOf
+names-ruled zero [] s h = tt
+names-ruled zero (m ∷ ms) s h = tt
+names-ruled (suc n) [] s h = tt
+names-ruled (suc n) (m ∷ ms) s h =
+    let p = and-true (goodName m) (slots n ms) h in
+    (record { eight = s .0; small = s .1; good = p .0 }, names-ruled n ms (s .2) (p .1))
+
+path-ruled : (names : List Name) (depth : ℕ) → Slots names → pathRule names depth ≡ true
+    → NamesOf NameRule ContentRule (pathOf names depth) × (length (pathOf names depth) ≤ 16)
+unfolding pathRule
+path-ruled names depth s h =
+    let a = and-true (leb 1 depth && leb depth 16) (slots depth names) h in
+    let b = and-true (leb 1 depth) (leb depth 16) (a .0) in
+    let c = leb-true depth 16 (b .1) in
+    (names-ruled depth names s (a .1), simp length-take (omega arith))
+
+-- what an accepted call leaves
+pub made-tab : (p : TreePath) (target source result : List ℕ) (t s : Forest) → Made p target source result → Tab target t → Tab source s → Tab result (moved p s t)
+unfolding moveDue over
+made-tab p target source result t s M T S =
+    let w = movedWords target source (M .names) (M .depth) in
+    let last = Accepted (length w / 20) in
+    let a = first-passed (refusalOf (checked target) 2) _ last (M .accepted) in
+    let b = first-passed (refusalOf (checked source) 3) _ last (a .1) in
+    let c = first-passed (unless (pathRule (M .names) (M .depth)) 5 0) _ last (b .1) in
+    let d = first-passed (unless (parentRule target (M .names) (M .depth)) 4 0) _ last (c .1) in
+    let e = first-passed (unless (roomRule (length w / 20) (length (M .room))) 3 2) [] last (d .1) in
+    let room = room-parts (length w / 20) (length (M .room)) (unless-true _ 3 2 (e .0)) in
+    let ruled = path-ruled (M .names) (M .depth) (M .slots) (unless-true _ 5 0 (c .0)) in
+    let formed = well-formed-moved p s t (rw (M .path) at (ruled .0)) (rw (M .path) at (ruled .1)) (S .formed) (T .formed) in
+    let words : w ≡ table (moved p s t) = rw (tab-tree source s S, tab-tree target t T, M .path) in
+    let size-is : length w ≡ 20 * suc (size (moved p s t)) = ap length words ∙ length-table (moved p s t) formed in
+    let answered : moveDue target source (M .names) (M .depth) (M .room) ≡ last = first-last _ last (M .accepted) in
+    let all : length w ≡ 20 * (length w / 20) = omega arith in
+    record {
+      is = M .table-left ∙ rw answered (take-at w (drop (length w) (M .room)) (20 * (length w / 20)) all) ∙ words;
+      formed = formed;
+      rows = omega (arith, room .0);
+    }
+
+-- the two sides' tables are those of the two trees
+pub record Both (t : Tables) (s : Sides) : Type 0 where
+  pub left : Tab (t .left) (s .left)
+  pub right : Tab (t .right) (s .right)
+
+pub carried-all : (ms : Lines) (s t : Tables) (u : Sides) → AllCarried ms s t → Both s u → Both t (after ms u)
+unfolding AllCarried after
+carried-all [] s t u h B = subst (λ (x : Tables). Both x u) h B
+carried-all (line p agreed ∷ ms) s t u (v, c, h) B = absurd c
+carried-all (line p clash ∷ ms) s t u (v, c, h) B = absurd c
+carried-all (line p leftGets ∷ ms) s t u (v, c, h) B =
+    carried-all ms v t _ h (record {
+      left = made-tab p (s .left) (s .right) (v .left) (u .left) (u .right) (c .0) (B .left) (B .right);
+      right = rw (c .1) (B .right);
+    })
+carried-all (line p rightGets ∷ ms) s t u (v, c, h) B =
+    carried-all ms v t _ h (record {
+      left = rw (c .1) (B .left);
+      right = made-tab p (s .right) (s .left) (v .right) (u .right) (u .left) (c .0) (B .right) (B .left);
+    })

@@ -1,0 +1,27 @@
+-- A path as a call is given it: sixteen names of eight words each, and a depth.
+use mathlib.Core.List.{List, [], _∷_}
+use mathlib.Core.Bool.{Bool, true, _&&_}
+use lib.Dec.{leb}
+use lib.ListN.{take}
+use Prim.Native.Nat.{ℕ, zero, suc, _-_}
+use Rattle.tree.specs.Name.{Name}
+use Rattle.tree.specs.Forest.{TreePath}
+use Rattle.tree.specs.Rules.{zeros, goodName}
+
+-- the names within the depth
+abbrev pub pathOf : List Name → ℕ → TreePath
+pathOf names depth = take depth names
+
+-- the path's parent
+abbrev pub parentOf : List Name → ℕ → TreePath
+parentOf names depth = take (depth - 1) names
+
+-- the first n slots hold names that an entry may have, the others zeros
+unfoldable pub slots : ℕ → List Name → Bool
+slots n [] = true
+slots zero (m ∷ ms) = zeros m && slots zero ms
+slots (suc n) (m ∷ ms) = goodName m && slots n ms
+
+-- number 5: the depth is 1 to 16, and no slot is bad
+unfoldable pub pathRule : List Name → ℕ → Bool
+pathRule names depth = leb 1 depth && leb depth 16 && slots depth names

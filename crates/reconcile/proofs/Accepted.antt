@@ -1,0 +1,66 @@
+-- A run is accepted exactly when the three tables are fine and every result has room.
+use mathlib.Core.Path.{_≡_}
+use mathlib.Core.List.{List, []}
+use mathlib.Core.Bool.{true}
+use lib.Dec.{leb}
+use lib.ListN.{length}
+use Prim.Native.Nat.{ℕ, _/_, _≤_}
+use borrow.Author.Tests.{leb-true, le-leb}
+use Rattle.rules.specs.declared.Answer.the-variants.{Accepted}
+use Rattle.rules.specs.declared.Checked.the-variants.{Fine}
+use Rattle.rules.specs.Answer.{isAccepted}
+use Rattle.rules.specs.Refusal.{refusalOf}
+use Rattle.rules.specs.Rules.{checked}
+use Rattle.rules.specs.Faults.{firstRefusal, unless, roomRule}
+use Rattle.settle.specs.Results.{Outcome}
+use Rattle.rules.proofs.Faults.{first-passed, refusal-fine, unless-true, room-parts, room-fits}
+use Rattle.reconcile.specs.Run.{given, Lent, countsOf, runDue}
+
+-- the results of an outcome have room
+pub record Room (u : Outcome) (b : Lent) : Type 0 where
+  pub archive : (countsOf u .archive ≤ 4096) × (countsOf u .archive ≤ length (b .archive) / 20)
+  pub left : (countsOf u .left ≤ 4096) × (countsOf u .left ≤ length (b .left) / 20)
+  pub right : (countsOf u .right ≤ 4096) × (countsOf u .right ≤ length (b .right) / 20)
+  pub list : countsOf u .list ≤ length (b .list) / 3
+
+pub record Passed (o l r : List ℕ) (b : Lent) : Type 0 where
+  pub fine-archive : checked o ≡ Fine
+  pub fine-left : checked l ≡ Fine
+  pub fine-right : checked r ≡ Fine
+  pub room : Room (given o l r) b
+
+pub passed : (o l r : List ℕ) (b : Lent) → isAccepted (runDue o l r b) ≡ true → Passed o l r b
+unfolding runDue
+passed o l r b h =
+    let n = countsOf (given o l r) in
+    let a = first-passed (refusalOf (checked o) 1) _ (Accepted 0) h in
+    let c = first-passed (refusalOf (checked l) 2) _ (Accepted 0) (a .1) in
+    let d = first-passed (refusalOf (checked r) 3) _ (Accepted 0) (c .1) in
+    let e = first-passed (unless (roomRule (n .archive) (length (b .archive))) 3 1) _ (Accepted 0) (d .1) in
+    let f = first-passed (unless (roomRule (n .left) (length (b .left))) 3 2) _ (Accepted 0) (e .1) in
+    let g = first-passed (unless (roomRule (n .right) (length (b .right))) 3 3) _ (Accepted 0) (f .1) in
+    let k = first-passed (unless (leb (n .list) (length (b .list) / 3)) 3 4) [] (Accepted 0) (g .1) in
+    record {
+      fine-archive = refusal-fine (checked o) 1 (a .0);
+      fine-left = refusal-fine (checked l) 2 (c .0);
+      fine-right = refusal-fine (checked r) 3 (d .0);
+      room = record {
+        archive = room-parts (n .archive) (length (b .archive)) (unless-true _ 3 1 (e .0));
+        left = room-parts (n .left) (length (b .left)) (unless-true _ 3 2 (f .0));
+        right = room-parts (n .right) (length (b .right)) (unless-true _ 3 3 (g .0));
+        list = leb-true (n .list) (length (b .list) / 3) (unless-true _ 3 4 (k .0));
+      };
+    }
+
+pub accepted : (o l r : List ℕ) (b : Lent) → Passed o l r b → runDue o l r b ≡ Accepted 0
+unfolding runDue firstRefusal
+accepted o l r b P =
+    rw (
+      P .fine-archive,
+      P .fine-left,
+      P .fine-right,
+      room-fits _ _ (P .room .archive .0) (P .room .archive .1),
+      room-fits _ _ (P .room .left .0) (P .room .left .1),
+      room-fits _ _ (P .room .right .0) (P .room .right .1),
+      le-leb _ _ (P .room .list),
+    )

@@ -1,0 +1,3 @@
+-- What a reconciliation of three tables answers, and what it leaves in each lent buffer.
+pub mod Answer
+pub mod Run

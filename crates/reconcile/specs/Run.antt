@@ -1,0 +1,85 @@
+-- A reconciliation of three tables with the buffers lent to it: the answer that is due, each buffer and the tally afterwards.
+use mathlib.Core.Path.{_≡_}
+use mathlib.Core.List.{List, [], _∷_}
+use mathlib.Core.Bool.{cond}
+use lib.Dec.{leb}
+use lib.ListN.{length}
+use Prim.Native.Nat.{ℕ, suc, _/_}
+use Rattle.tree.specs.Forest.{size}
+use Rattle.settle.specs.Decision.{Decision.agreed, Decision.leftGets, Decision.rightGets, Decision.clash}
+use Rattle.settle.specs.Results.{Line.line, Lines, Outcome, outcome}
+use Rattle.row.specs.Buffer.{over}
+use Rattle.row.specs.Tree.{table, treeOf}
+use Rattle.rules.specs.declared.Answer.{Answer}
+use Rattle.rules.specs.declared.Answer.the-variants.{Accepted}
+use Rattle.rules.specs.Answer.{isAccepted}
+use Rattle.rules.specs.Refusal.{refusalOf}
+use Rattle.rules.specs.Rules.{checked}
+use Rattle.rules.specs.Faults.{firstRefusal, unless, roomRule}
+use Rattle.plan.specs.Items.{listWords}
+use Rattle.reconcile.specs.declared.Reconciled.{Reconciled}
+use Rattle.reconcile.specs.declared.Tally.{Tally}
+use Rattle.reconcile.specs.Answer.{Counts, answerWith}
+
+-- what the three trees give
+abbrev pub given : List ℕ → List ℕ → List ℕ → Outcome
+given o l r = outcome (treeOf o) (treeOf l) (treeOf r)
+
+-- the counts of kinds 1, 2 and 3
+unfoldable pub tallyOf : Lines → Tally
+tallyOf [] = record { left = 0; right = 0; clash = 0 }
+tallyOf (line p agreed ∷ xs) = tallyOf xs
+tallyOf (line p leftGets ∷ xs) = let t = tallyOf xs in record { left = suc (t .left); right = t .right; clash = t .clash }
+tallyOf (line p rightGets ∷ xs) = let t = tallyOf xs in record { left = t .left; right = suc (t .right); clash = t .clash }
+tallyOf (line p clash ∷ xs) = let t = tallyOf xs in record { left = t .left; right = t .right; clash = suc (t .clash) }
+
+-- the buffers that are lent, and the tally
+pub record Lent : Type 0 where
+  pub archive : List ℕ
+  pub left : List ℕ
+  pub right : List ℕ
+  pub list : List ℕ
+  pub tally : Tally
+
+abbrev pub countsOf : Outcome → Counts
+countsOf u = record { archive = suc (size (u .archive)); left = suc (size (u .left)); right = suc (size (u .right)); list = length (u .lines) }
+
+-- the tables' faults, archive, left, right; then the rooms, archive, left, right, list
+unfoldable pub runDue : List ℕ → List ℕ → List ℕ → Lent → Answer
+runDue o l r b =
+    firstRefusal
+    (refusalOf (checked o) 1 ∷
+    refusalOf (checked l) 2 ∷
+    refusalOf (checked r) 3 ∷
+    unless (roomRule (countsOf (given o l r) .archive) (length (b .archive))) 3 1 ∷
+    unless (roomRule (countsOf (given o l r) .left) (length (b .left))) 3 2 ∷
+    unless (roomRule (countsOf (given o l r) .right) (length (b .right))) 3 3 ∷
+    unless (leb (countsOf (given o l r) .list) (length (b .list) / 3)) 3 4 ∷
+    [])
+    (Accepted 0)
+
+-- what an accepted run leaves: each result at the start of its buffer, and the tally of the list
+abbrev pub filled : List ℕ → List ℕ → List ℕ → Lent → Lent
+filled o l r b = record {
+  archive = over (b .archive) (table (given o l r .archive));
+  left = over (b .left) (table (given o l r .left));
+  right = over (b .right) (table (given o l r .right));
+  list = over (b .list) (listWords (treeOf l) (treeOf r) (given o l r .lines));
+  tally = tallyOf (given o l r .lines);
+}
+
+pub record Ran : Type 0 where
+  pub answer : Reconciled
+  pub lent : Lent
+
+-- a refusal leaves every buffer and the tally as they were
+unfoldable pub runOf : List ℕ → List ℕ → List ℕ → Lent → Ran
+runOf o l r b = record {
+  answer = answerWith (runDue o l r b) (countsOf (given o l r));
+  lent = cond (isAccepted (runDue o l r b)) (filled o l r b) b;
+}
+
+-- the contract of a reconciliation, for all inputs
+pub record ReconcileContract (o l r : List ℕ) (before after : Lent) (answer : Reconciled) : Type 0 where
+  pub answered : answer ≡ runOf o l r before .answer
+  pub left-in : after ≡ runOf o l r before .lent

@@ -1,0 +1,58 @@
+-- The order of faults: an acceptance passes every check, and what passes every check is accepted.
+use mathlib.Core.Path.{_≡_, refl}
+use mathlib.Core.List.{List, [], _∷_}
+use mathlib.Core.Bool.{Bool, true, false}
+use lib.Dec.{leb}
+use Prim.Native.Nat.{ℕ, _/_, _≤_}
+use borrow.Author.Tests.{le-leb, leb-true}
+use Rattle.tree.proofs.Never.{never}
+use Rattle.tree.proofs.Same.{and-true}
+use Rattle.rules.specs.declared.Answer.{Answer}
+use Rattle.rules.specs.declared.Answer.the-variants.{Accepted, Refused}
+use Rattle.rules.specs.declared.Checked.{Checked}
+use Rattle.rules.specs.declared.Checked.the-variants.{Fine, BadLength, BadRow}
+use Rattle.rules.specs.Answer.{isAccepted}
+use Rattle.rules.specs.Refusal.{refusalOf}
+use Rattle.rules.specs.Faults.{firstRefusal, unless, roomRule}
+
+pub first-passed : (a : Answer) (more : List Answer) (last : Answer) → isAccepted (firstRefusal (a ∷ more) last) ≡ true
+    → (isAccepted a ≡ true) × (isAccepted (firstRefusal more last) ≡ true)
+unfolding firstRefusal
+first-passed (Accepted p) more last h = (refl, h)
+first-passed (Refused n s p) more last h = (h, never (cc))
+
+pub first-accepted : (a : Answer) (more : List Answer) (last : Answer) → isAccepted a ≡ true → firstRefusal (a ∷ more) last ≡ firstRefusal more last
+unfolding firstRefusal
+first-accepted a more last h = rw h
+
+-- where no check refuses, the answer is the last
+pub first-last : (xs : List Answer) (last : Answer) → isAccepted (firstRefusal xs last) ≡ true → firstRefusal xs last ≡ last
+unfolding firstRefusal
+first-last [] last h = refl
+first-last (Accepted p ∷ xs) last h = first-last xs last h
+first-last (Refused n s p ∷ xs) last h = never (cc)
+
+pub refusal-fine : (c : Checked) (side : ℕ) → isAccepted (refusalOf c side) ≡ true → c ≡ Fine
+refusal-fine Fine side h = refl
+refusal-fine BadLength side h = never (cc)
+refusal-fine (BadRow i) side h = never (cc)
+
+pub fine-refusal : (c : Checked) (side : ℕ) → c ≡ Fine → isAccepted (refusalOf c side) ≡ true
+fine-refusal c side h = rw h
+
+pub unless-true : (b : Bool) (number side : ℕ) → isAccepted (unless b number side) ≡ true → b ≡ true
+unless-true true number side h = refl
+unless-true false number side h = never (cc)
+
+pub true-unless : (b : Bool) (number side : ℕ) → b ≡ true → isAccepted (unless b number side) ≡ true
+true-unless b number side h = rw h
+
+pub room-parts : (n lent : ℕ) → roomRule n lent ≡ true → (n ≤ 4096) × (n ≤ lent / 20)
+unfolding roomRule
+room-parts n lent h =
+    let p = and-true (leb n 4096) (leb n (lent / 20)) h in
+    (leb-true n 4096 (p .0), leb-true n (lent / 20) (p .1))
+
+pub room-fits : (n lent : ℕ) → n ≤ 4096 → n ≤ lent / 20 → roomRule n lent ≡ true
+unfolding roomRule
+room-fits n lent a b = rw (le-leb _ _ a, le-leb _ _ b)
