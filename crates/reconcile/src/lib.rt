@@ -1,21 +1,18 @@
 // Reconciling three tables: the new archive, the new left, the new right, the list and the tally.
 
-// What a reconciliation answers; accepted, the rows of the new archive, left and right, and the list's entries.
-pub enum Reconciled {
-    Accepted {
-        archive: usize,
-        left: usize,
-        right: usize,
-        list: usize,
-    },
-    Refused {
-        number: u32,
-        side: u32,
-        place: usize,
-    },
+// What a reconciliation answers: number, side and place; accepted, the rows of the new archive, left and right, and the
+// list's entries.
+pub struct Reconciled {
+    pub number: u32,
+    pub side: u32,
+    pub place: usize,
+    pub archive: usize,
+    pub left: usize,
+    pub right: usize,
+    pub list: usize,
 }
 
-// How many entries of each kind the list has.
+// How many entries of kinds 1, 2 and 3 the list has.
 pub struct Tally {
     pub left: u32,
     pub right: u32,
