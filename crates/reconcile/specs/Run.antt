@@ -6,8 +6,7 @@ use lib.Dec.{leb}
 use lib.ListN.{length}
 use Prim.Native.Nat.{ℕ, suc, _/_}
 use Rattle.tree.specs.Forest.{size}
-use Rattle.settle.specs.Decision.{Decision.agreed, Decision.leftGets, Decision.rightGets, Decision.clash}
-use Rattle.settle.specs.Results.{Line.line, Lines, Outcome, outcome}
+use Rattle.settle.specs.Results.{Outcome, outcome}
 use Rattle.row.specs.Buffer.{over}
 use Rattle.row.specs.Tree.{table, treeOf}
 use Rattle.rules.specs.declared.Answer.{Answer}
@@ -17,21 +16,14 @@ use Rattle.rules.specs.Refusal.{refusalOf}
 use Rattle.rules.specs.Rules.{checked}
 use Rattle.rules.specs.Faults.{firstRefusal, unless, roomRule}
 use Rattle.plan.specs.Items.{listWords}
+use Rattle.tally.specs.declared.Tally.{Tally}
+use Rattle.tally.specs.Count.{tallyOf}
 use Rattle.reconcile.specs.declared.Reconciled.{Reconciled}
-use Rattle.reconcile.specs.declared.Tally.{Tally}
 use Rattle.reconcile.specs.Answer.{Counts, answerWith}
 
 -- what the three trees give
 abbrev pub given : List ℕ → List ℕ → List ℕ → Outcome
 given o l r = outcome (treeOf o) (treeOf l) (treeOf r)
-
--- the counts of kinds 1, 2 and 3
-unfoldable pub tallyOf : Lines → Tally
-tallyOf [] = record { left = 0; right = 0; clash = 0 }
-tallyOf (line p agreed ∷ xs) = tallyOf xs
-tallyOf (line p leftGets ∷ xs) = let t = tallyOf xs in record { left = suc (t .left); right = t .right; clash = t .clash }
-tallyOf (line p rightGets ∷ xs) = let t = tallyOf xs in record { left = t .left; right = suc (t .right); clash = t .clash }
-tallyOf (line p clash ∷ xs) = let t = tallyOf xs in record { left = t .left; right = t .right; clash = suc (t .clash) }
 
 -- the buffers that are lent, and the tally
 pub record Lent : Type 0 where

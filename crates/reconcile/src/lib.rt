@@ -11,10 +11,3 @@ pub struct Reconciled {
     pub right: usize,
     pub list: usize,
 }
-
-// How many entries of kinds 1, 2 and 3 the list has.
-pub struct Tally {
-    pub left: u32,
-    pub right: u32,
-    pub clash: u32,
-}

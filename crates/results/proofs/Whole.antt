@@ -31,7 +31,7 @@ use Rattle.results.specs.declared.Tree.{Tree}
 use Rattle.results.specs.declared.Tree.the-variants.{Archive, Left, Right}
 use Rattle.results.specs.Decisions.{numbered, decisionOf, decisions, pieces}
 use Rattle.results.specs.Pieces.{pieceLeft, pieceRight, pieceArchive, pieceOf, newTree, pieceList}
-use Rattle.results.proofs.Pieces.{deep, concat, pieceAt, pieces as tree-pieces}
+use Rattle.results.proofs.Taken.{deep, concat, pieceAt, pieces as tree-pieces}
 
 -- the decision of an item, with its rows
 abbrev ofLine : Forest → Forest → Forest → Line → Decision

@@ -4,7 +4,6 @@ use mathlib.Core.List.{List, [], _∷_, _++_}
 use Prim.Native.Nat.{ℕ}
 use Rattle.row.specs.Table.{rowAt}
 use Rattle.find.specs.Subtree.{subtree}
-use Rattle.cursor.specs.declared.Rows.{Rows}
 use Rattle.cursor.specs.declared.Decision.{Decision}
 use Rattle.cursor.specs.declared.Decision.the-variants.{Agreed, LeftGets, RightGets, Clash}
 use Rattle.results.specs.declared.Tree.{Tree}
@@ -12,20 +11,20 @@ use Rattle.results.specs.declared.Tree.the-variants.{Archive, Left, Righ
 use Rattle.results.specs.Decisions.{pieces}
 
 -- both sides keep theirs at a clash
-unfoldable pub pieceLeft : List ℕ → List ℕ → List ℕ → Decision → List ℕ
+abbrev pub pieceLeft : List ℕ → List ℕ → List ℕ → Decision → List ℕ
 pieceLeft o l r (Agreed h) = rowAt l (h .l)
 pieceLeft o l r (LeftGets h) = subtree r (h .r)
 pieceLeft o l r (RightGets h) = subtree l (h .l)
 pieceLeft o l r (Clash h) = subtree l (h .l)
 
-unfoldable pub pieceRight : List ℕ → List ℕ → List ℕ → Decision → List ℕ
+abbrev pub pieceRight : List ℕ → List ℕ → List ℕ → Decision → List ℕ
 pieceRight o l r (Agreed h) = rowAt r (h .r)
 pieceRight o l r (LeftGets h) = subtree r (h .r)
 pieceRight o l r (RightGets h) = subtree l (h .l)
 pieceRight o l r (Clash h) = subtree r (h .r)
 
 -- at a clash the archive keeps its whole subtree
-unfoldable pub pieceArchive : List ℕ → List ℕ → List ℕ → Decision → List ℕ
+abbrev pub pieceArchive : List ℕ → List ℕ → List ℕ → Decision → List ℕ
 pieceArchive o l r (Agreed h) = rowAt l (h .l)
 pieceArchive o l r (LeftGets h) = subtree r (h .r)
 pieceArchive o l r (RightGets h) = subtree l (h .l)
@@ -41,7 +40,7 @@ unfoldable pub newTree : Tree → List ℕ → List ℕ → List ℕ → List De
 newTree t o l r ds = rowAt l 0 ++ pieces (pieceOf t o l r) ds
 
 -- an entry of the list: kind, left row, right row; what is agreed is not listed
-unfoldable pub pieceList : Decision → List ℕ
+abbrev pub pieceList : Decision → List ℕ
 pieceList (Agreed h) = []
 pieceList (LeftGets h) = 1 ∷ h .l ∷ h .r ∷ []
 pieceList (RightGets h) = 2 ∷ h .l ∷ h .r ∷ []

@@ -1,0 +1,59 @@
+-- `count_tree` counts a new tree's words.
+use mathlib.Core.Path.{sym, ap}
+use native.Mathlib.Omega.{arith}
+use lib.ListN.{length}
+use Prim.Native.Nat.{_-_, _≤_}
+use borrow.Author.Needs.{needs}
+use Rattle.results.specs.Decisions.{decisions}
+use Rattle.results.specs.Pieces.{pieceOf, newTree}
+use Rattle.results.proofs.Rest.{Counting, count-start, count-next, count-end}
+use Rattle.results.proofs.Pieces.{piece-small, tree-length}
+use Rattle.results.proofs.count_tree.Statement.{statement}
+use Rattle.results.proofs.count_tree.Tie as tie
+
+abbrev Inv-loop : tie.InvT-loop
+Inv-loop o l r tree plan n sum₀ k₀ sum k = Counting (pieceOf tree o l r) plan n (length (newTree tree o l r (decisions n plan))) sum k
+
+abbrev μ-loop : tie.MeasureT-loop
+μ-loop o l r tree plan n sum₀ k₀ sum k = n - k
+
+loop-holds : tie.Need-loop-holds Inv-loop μ-loop
+loop-holds c =
+    let s = c .before .before .before .before in
+    let a = s .args in
+    count-start (omega arith) (sym (tree-length (a .tree) (a .o .now) (a .l .now) (a .r .now) (decisions (a .n) (a .plan .now)) (s .pre .1 .0)))
+
+add-sum : tie.Need-add-sum Inv-loop μ-loop
+add-sum c =
+    let s = c .before .before .before .before .before .before .before .before in
+    let a = s .args in
+    let b = piece-small (a .o .now) (a .l .now) (a .r .now) (s .pre .0) (a .tree) (c .before .decode .result) in
+    let e : length (c .source .result .now) ≤ 81920 = omega (arith, ap length (c .source .ensures)) in
+    search needs
+
+loop-again : tie.Need-loop-again Inv-loop μ-loop
+loop-again c =
+    let l = c .before .before .before in
+    let s = l .before .before .before .before .before in
+    let a = s .args in
+    let b = piece-small (a .o .now) (a .l .now) (a .r .now) (s .pre .0) (a .tree) (c .before .decode .result) in
+    let e = ap length (c .source .ensures) in
+    count-next (l .loop .inv) (search needs) (rw (c .before .decode .ensures) at e) (omega arith)
+
+returns : tie.Need-returns Inv-loop μ-loop
+returns c = count-end (c .before .loop .inv) (c .loop-test .left)
+
+pub count-tree-spec : {M : Type 1} → statement M
+count-tree-spec =
+    tie.close
+    (tie.spec
+    Inv-loop
+    μ-loop
+    loop-holds
+    (λ c κs. search needs)
+    (λ c κs. search needs)
+    add-sum
+    (λ c. search needs)
+    (λ c. search needs)
+    loop-again
+    returns)

@@ -1,0 +1,2 @@
+-- The laws of counting.
+pub mod Laws

@@ -1,0 +1,2 @@
+-- Counting a list's entries by kind.
+pub mod Count
