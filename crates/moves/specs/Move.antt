@@ -43,15 +43,15 @@ moveDue target source names depth lent =
     (Accepted (length (movedWords target source names depth) / 20))
 
 -- a move with the room lent to it: what is answered, and the room afterwards
-pub record Moved : Type 0 where
+pub record MoveOutcome : Type 0 where
   pub answer : Answer
-  pub result : List ℕ
+  pub room : List ℕ
 
 -- a refusal touches nothing, and what lies past the result stays
-abbrev pub moveOf : List ℕ → List ℕ → List Name → ℕ → List ℕ → Moved
+abbrev pub moveOf : List ℕ → List ℕ → List Name → ℕ → List ℕ → MoveOutcome
 moveOf target source names depth lent = record {
   answer = moveDue target source names depth lent;
-  result = cond (isAccepted (moveDue target source names depth lent)) (over lent (movedWords target source names depth)) lent;
+  room = cond (isAccepted (moveDue target source names depth lent)) (over lent (movedWords target source names depth)) lent;
 }
 
 -- the contract of a move: the answer that is due, and the room afterwards
@@ -59,4 +59,4 @@ pub record MoveContract (target source : List ℕ) (names : List Name) (depth : 
   pub says :
       Says answer (numberOf (moveOf target source names depth lent .answer)) (sideOf (moveOf target source names depth lent .answer))
       (placeOf (moveOf target source names depth lent .answer))
-  pub room : result ≡ moveOf target source names depth lent .result
+  pub room : result ≡ moveOf target source names depth lent .room

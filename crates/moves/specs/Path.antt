@@ -1,16 +1,21 @@
 -- A path as a call is given it: sixteen names of eight words each, and a depth.
-use mathlib.Core.List.{List, [], _∷_}
+use mathlib.Core.List.{List, [], _∷_, _++_}
 use mathlib.Core.Bool.{Bool, true, _&&_}
 use lib.Dec.{leb}
-use lib.ListN.{take}
+use lib.ListN.{length, take, replicate}
 use Prim.Native.Nat.{ℕ, zero, suc, _-_}
 use Rattle.tree.specs.Name.{Name}
 use Rattle.tree.specs.Forest.{TreePath}
 use Rattle.tree.specs.Rules.{zeros, goodName}
+use Rattle.row.specs.Tree.{rootName}
 
 -- the names within the depth
 abbrev pub pathOf : List Name → ℕ → TreePath
 pathOf names depth = take depth names
+
+-- the slots that a path is given in: its names, and zeros past them
+abbrev pub slotsOf : TreePath → List Name
+slotsOf p = p ++ replicate (16 - length p) rootName
 
 -- the path's parent
 abbrev pub parentOf : List Name → ℕ → TreePath

@@ -74,7 +74,8 @@ module _ (o l r : List ℕ) (k d : ℕ) where
 
   -- a turn of the loop: the entry e is written, and the rest is what comes behind it
   pub turn : {plan₀ plan plan′ all : List ℕ} {at q q′ : ℕ} (m : ℕ) (g g′ e : Rows)
-      → 0 < m → e ≡ least o l r g → ended o l r e ≡ false → g′ ≡ past o l r d g e → q ≤ length plan → Writes plan q (entry o l r k d e) plan′ q′
+      → 0 < m → e ≡ least o l r g → ended o l r e ≡ false → g′ ≡ past o l r d g e
+      → q ≤ length plan → Writes plan q (entry o l r k d e) plan′ q′
       → Writes plan₀ at all (written plan q (rest m g)) (q + length (rest m g))
       → Writes plan₀ at all (written plan′ q′ (rest (m - 1) g′)) (q′ + length (rest (m - 1) g′))
   turn m g g′ e p i n j h w v =

@@ -7,14 +7,14 @@ use lib.Seq.{length-take-le}
 use Prim.Native.Nat.{ℕ, _+_, _≤_}
 use Rattle.row.specs.Table.{rowAt}
 use Rattle.find.specs.Subtree.{subtree}
-use Rattle.cursor.specs.declared.Rows.{Rows}
 use Rattle.cursor.specs.declared.Decision.{Decision}
 use Rattle.cursor.specs.declared.Decision.the-variants.{Agreed, LeftGets, RightGets, Clash}
 use Rattle.plan.specs.Settle.{Three}
 use Rattle.results.specs.declared.Tree.{Tree}
-use Rattle.results.specs.declared.Tree.the-variants.{Archive, Left, Right}
+use Rattle.results.specs.declared.Source.{Source}
+use Rattle.results.specs.declared.Source.the-variants.{OldPart, LeftPart, RightPart, LeftRow, RightRow}
 use Rattle.results.specs.Decisions.{pieces}
-use Rattle.results.specs.Pieces.{pieceOf, pieceList, newTree}
+use Rattle.results.specs.Pieces.{sourceWords, pieceOf, pieceList, newTree}
 
 row-small : (w : List ℕ) (i : ℕ) → length w ≤ 81920 → length (rowAt w i) ≤ 81920
 row-small w i h = simp (length-take, length-drop) (omega arith)
@@ -22,26 +22,12 @@ row-small w i h = simp (length-take, length-drop) (omega arith)
 subtree-small : (w : List ℕ) (i : ℕ) → length w ≤ 81920 → length (subtree w i) ≤ 81920
 subtree-small w i h = simp (length-take, length-drop) (omega arith)
 
-module _ (o l r : List ℕ) where
-  pub left-gets : (t : Tree) (h : Rows) → pieceOf t o l r (LeftGets h) ≡ subtree r (h .r)
-  left-gets Archive h = refl
-  left-gets Left h = refl
-  left-gets Right h = refl
-
-  pub right-gets : (t : Tree) (h : Rows) → pieceOf t o l r (RightGets h) ≡ subtree l (h .l)
-  right-gets Archive h = refl
-  right-gets Left h = refl
-  right-gets Right h = refl
-
-  pub piece-small : Three o l r → (t : Tree) (d : Decision) → length (pieceOf t o l r d) ≤ 81920
-  piece-small s Archive (Agreed h) = row-small l (h .l) (s .l-small)
-  piece-small s Left (Agreed h) = row-small l (h .l) (s .l-small)
-  piece-small s Right (Agreed h) = row-small r (h .r) (s .r-small)
-  piece-small s t (LeftGets h) = rw (left-gets t h) (subtree-small r (h .r) (s .r-small))
-  piece-small s t (RightGets h) = rw (right-gets t h) (subtree-small l (h .l) (s .l-small))
-  piece-small s Archive (Clash h) = subtree-small o (h .o) (s .o-small)
-  piece-small s Left (Clash h) = subtree-small l (h .l) (s .l-small)
-  piece-small s Right (Clash h) = subtree-small r (h .r) (s .r-small)
+pub source-small : (o l r : List ℕ) → Three o l r → (s : Source) → length (sourceWords o l r s) ≤ 81920
+source-small o l r h (OldPart i) = subtree-small o i (h .o-small)
+source-small o l r h (LeftPart i) = subtree-small l i (h .l-small)
+source-small o l r h (RightPart i) = subtree-small r i (h .r-small)
+source-small o l r h (LeftRow i) = row-small l i (h .l-small)
+source-small o l r h (RightRow i) = row-small r i (h .r-small)
 
 module _ (t : Tree) (o l r : List ℕ) (ds : List Decision) where
   pub tree-split : length (newTree t o l r ds) ≡ length (rowAt l 0) + length (pieces (pieceOf t o l r) ds)

@@ -13,8 +13,8 @@ use Rattle.plan.specs.Settle.{decisionWords}
 use Rattle.results.specs.Decisions.{numbered, decisionOf, decisions, pieces}
 
 -- item k in the words that the code reads
-pub decision-at : (p : List ℕ) (k : ℕ)
-    → decisionOf (drop (4 * k) p) ≡ numbered (getD p (4 * k) 0) (record { o = getD p (4 * k + 1) 0; l = getD p (4 * k + 2) 0; r = getD p (4 * k + 3) 0 })
+pub decision-at : (p : List ℕ) (k : ℕ) → decisionOf (drop (4 * k) p)
+    ≡ numbered (getD p (4 * k) 0) (record { o = getD p (4 * k + 1) 0; l = getD p (4 * k + 2) 0; r = getD p (4 * k + 3) 0 })
 unfolding decisionOf
 decision-at p k =
     rw (getD-drop (4 * k) p 0 0, getD-drop (4 * k) p 1 0, getD-drop (4 * k) p 2 0, getD-drop (4 * k) p 3 0, add-zero)

@@ -30,7 +30,7 @@ use Rattle.plan.proofs.Settled.{IsTable}
 use Rattle.results.specs.declared.Tree.{Tree}
 use Rattle.results.specs.declared.Tree.the-variants.{Archive, Left, Right}
 use Rattle.results.specs.Decisions.{numbered, decisionOf, decisions, pieces}
-use Rattle.results.specs.Pieces.{pieceLeft, pieceRight, pieceArchive, pieceOf, newTree, pieceList}
+use Rattle.results.specs.Pieces.{pieceOf, newTree, pieceList}
 use Rattle.results.proofs.Taken.{deep, concat, pieceAt, pieces as tree-pieces}
 
 -- the decision of an item, with its rows
@@ -78,7 +78,7 @@ resultOf Right = right
 module _ (ow lw rw′ : List ℕ) (o l r : Forest) (T : Three ow lw rw′) (a : IsTable ow o) (b : IsTable lw l) (c : IsTable rw′ r) where
   -- what the code takes of an item is what the result takes at its path
   piece-line : (t : Tree) (x : Line) → pieceOf t ow lw rw′ (ofLine o l r x) ≡ flat (pieceAt (resultOf t) 0 rootName (folder o) (folder l) (folder r) x)
-  unfolding kind pieceLeft pieceRight pieceArchive
+  unfolding kind
   piece-line t (line p d) = go t d
     where
       D : ℕ

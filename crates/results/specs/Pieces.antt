@@ -1,5 +1,5 @@
--- What each result takes by a decision, of the rows that it names: one row of a folder on both sides or of a file, else
--- the whole subtree. A row that does not exist has no words.
+-- What each result takes by a decision, of the rows that it names: one row of what is agreed, for that is a folder on both
+-- sides, a file or nothing; else the whole subtree. A row that does not exist has no words.
 use mathlib.Core.List.{List, [], _∷_, _++_}
 use Prim.Native.Nat.{ℕ}
 use Rattle.row.specs.Table.{rowAt}
@@ -8,32 +8,30 @@ use Rattle.cursor.specs.declared.Decision.{Decision}
 use Rattle.cursor.specs.declared.Decision.the-variants.{Agreed, LeftGets, RightGets, Clash}
 use Rattle.results.specs.declared.Tree.{Tree}
 use Rattle.results.specs.declared.Tree.the-variants.{Archive, Left, Right}
+use Rattle.results.specs.declared.Source.{Source}
+use Rattle.results.specs.declared.Source.the-variants.{OldPart, LeftPart, RightPart, LeftRow, RightRow}
 use Rattle.results.specs.Decisions.{pieces}
 
--- both sides keep theirs at a clash
-abbrev pub pieceLeft : List ℕ → List ℕ → List ℕ → Decision → List ℕ
-pieceLeft o l r (Agreed h) = rowAt l (h .l)
-pieceLeft o l r (LeftGets h) = subtree r (h .r)
-pieceLeft o l r (RightGets h) = subtree l (h .l)
-pieceLeft o l r (Clash h) = subtree l (h .l)
+-- at a clash each tree keeps its own, the archive its whole old subtree
+abbrev pub sourceOf : Decision → Tree → Source
+sourceOf (Agreed h) Archive = LeftRow (h .l)
+sourceOf (Agreed h) Left = LeftRow (h .l)
+sourceOf (Agreed h) Right = RightRow (h .r)
+sourceOf (LeftGets h) t = RightPart (h .r)
+sourceOf (RightGets h) t = LeftPart (h .l)
+sourceOf (Clash h) Archive = OldPart (h .o)
+sourceOf (Clash h) Left = LeftPart (h .l)
+sourceOf (Clash h) Right = RightPart (h .r)
 
-abbrev pub pieceRight : List ℕ → List ℕ → List ℕ → Decision → List ℕ
-pieceRight o l r (Agreed h) = rowAt r (h .r)
-pieceRight o l r (LeftGets h) = subtree r (h .r)
-pieceRight o l r (RightGets h) = subtree l (h .l)
-pieceRight o l r (Clash h) = subtree r (h .r)
-
--- at a clash the archive keeps its whole subtree
-abbrev pub pieceArchive : List ℕ → List ℕ → List ℕ → Decision → List ℕ
-pieceArchive o l r (Agreed h) = rowAt l (h .l)
-pieceArchive o l r (LeftGets h) = subtree r (h .r)
-pieceArchive o l r (RightGets h) = subtree l (h .l)
-pieceArchive o l r (Clash h) = subtree o (h .o)
+abbrev pub sourceWords : List ℕ → List ℕ → List ℕ → Source → List ℕ
+sourceWords o l r (OldPart i) = subtree o i
+sourceWords o l r (LeftPart i) = subtree l i
+sourceWords o l r (RightPart i) = subtree r i
+sourceWords o l r (LeftRow i) = rowAt l i
+sourceWords o l r (RightRow i) = rowAt r i
 
 abbrev pub pieceOf : Tree → List ℕ → List ℕ → List ℕ → Decision → List ℕ
-pieceOf Archive = pieceArchive
-pieceOf Left = pieceLeft
-pieceOf Right = pieceRight
+pieceOf t o l r d = sourceWords o l r (sourceOf d t)
 
 -- a new tree: the root's row, which is the same in all tables, then the pieces
 unfoldable pub newTree : Tree → List ℕ → List ℕ → List ℕ → List Decision → List ℕ

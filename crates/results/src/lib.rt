@@ -8,13 +8,22 @@ ghost use Rattle.row.specs.Table.{rowAt};
 ghost use Rattle.plan.specs.Settle.{Three};
 ghost use Rattle.plan.specs.Writes.{Writes, Fills};
 ghost use Rattle.results.specs.Decisions.{decisionOf, decisions, pieces};
-ghost use Rattle.results.specs.Pieces.{pieceOf, newTree, pieceList};
+ghost use Rattle.results.specs.Pieces.{sourceOf, sourceWords, newTree, pieceList};
 
 // The new trees.
 pub enum Tree {
     Archive,
     Left,
     Right,
+}
+
+// What a new tree takes by a decision: a row's whole subtree, or the row alone.
+pub enum Source {
+    OldPart(u32),
+    LeftPart(u32),
+    RightPart(u32),
+    LeftRow(u32),
+    RightRow(u32),
 }
 
 // Item k of a plan.
@@ -50,36 +59,57 @@ fn one_row(t: &[u32], i: u32) -> &[u32]
     }
 }
 
-// What a new tree takes by a decision: a part of one of the three tables.
-fn source<'a>(o: &'a [u32], l: &'a [u32], r: &'a [u32], tree: Tree, d: Decision) -> &'a [u32]
-    requires { ⌜ Three (now o) (now l) (now r) ⌝ }
-    ensures { λ s. ⌜ now s ≡ pieceOf tree (now (o .entry)) (now (l .entry)) (now (r .entry)) d ⌝ }
+// What a new tree takes by a decision.
+fn takes(tree: Tree, d: Decision) -> Source
+    ensures { λ s. ⌜ s ≡ sourceOf d tree ⌝ }
 {
     match d {
         Decision::Agreed(h) => match tree {
-            Tree::Archive => one_row(l, h.l),
-            Tree::Left => one_row(l, h.l),
-            Tree::Right => one_row(r, h.r),
+            Tree::Archive => Source::LeftRow(h.l),
+            Tree::Left => Source::LeftRow(h.l),
+            Tree::Right => Source::RightRow(h.r),
         },
-        Decision::LeftGets(h) => find::part(r, h.r),
-        Decision::RightGets(h) => find::part(l, h.l),
+        Decision::LeftGets(h) => Source::RightPart(h.r),
+        Decision::RightGets(h) => Source::LeftPart(h.l),
         Decision::Clash(h) => match tree {
-            Tree::Archive => find::part(o, h.o),
-            Tree::Left => find::part(l, h.l),
-            Tree::Right => find::part(r, h.r),
+            Tree::Archive => Source::OldPart(h.o),
+            Tree::Left => Source::LeftPart(h.l),
+            Tree::Right => Source::RightPart(h.r),
         },
     }
 }
 
+// How many words a source has.
+fn source_len(o: &[u32], l: &[u32], r: &[u32], s: Source) -> usize
+    requires { ⌜ Three (now o) (now l) (now r) ⌝ }
+    ensures { λ n. ⌜ n ≡ length (sourceWords (now (o .entry)) (now (l .entry)) (now (r .entry)) s) ⌝ }
+{
+    match s {
+        Source::OldPart(i) => find::part(o, i).len(),
+        Source::LeftPart(i) => find::part(l, i).len(),
+        Source::RightPart(i) => find::part(r, i).len(),
+        Source::LeftRow(i) => one_row(l, i).len(),
+        Source::RightRow(i) => one_row(r, i).len(),
+    }
+}
+
+// A source's words into out at place at; the next place.
+fn copy_source(o: &[u32], l: &[u32], r: &[u32], s: Source, out: &mut [u32], at: usize) -> usize
+    requires { ⌜ Three (now o) (now l) (now r) ⌝ }
+    requires { ⌜ at + length (sourceWords (now o) (now l) (now r) s) ≤ length (now out) ⌝ }
+    ensures { λ q. ⌜ Writes (now (out .entry)) at (sourceWords (now (o .entry)) (now (l .entry)) (now (r .entry)) s) (now (out .exit)) q ⌝ }
+{
+    match s {
+        Source::OldPart(i) => row::copy_words(find::part(o, i), out, at),
+        Source::LeftPart(i) => row::copy_words(find::part(l, i), out, at),
+        Source::RightPart(i) => row::copy_words(find::part(r, i), out, at),
+        Source::LeftRow(i) => row::copy_words(one_row(l, i), out, at),
+        Source::RightRow(i) => row::copy_words(one_row(r, i), out, at),
+    }
+}
+
 // How many words a new tree has. A plan has no more items than the three tables have rows, 12,288 at most.
-pub fn count_tree<'a>(
-    o: &'a [u32],
-    l: &'a [u32],
-    r: &'a [u32],
-    tree: Tree,
-    plan: &[u32],
-    n: usize,
-) -> usize
+pub fn count_tree(o: &[u32], l: &[u32], r: &[u32], tree: Tree, plan: &[u32], n: usize) -> usize
     requires { ⌜ Three (now o) (now l) (now r) ⌝ }
     requires { ⌜ 20 ≤ length (now l) ⌝ }
     requires { ⌜ (4 * n ≤ length (now plan)) × (n ≤ 12288) ⌝ }
@@ -88,19 +118,18 @@ pub fn count_tree<'a>(
     let mut sum = 20;
     let mut k = 0;
     while k < n {
-        let d = decode(plan, k);
-        let part = source(o, l, r, tree, d);
-        sum += part.len();
+        let s = takes(tree, decode(plan, k));
+        sum += source_len(o, l, r, s);
         k += 1;
     }
     sum
 }
 
 // A new tree at the start of out; how many words it has.
-pub fn write_tree<'a>(
-    o: &'a [u32],
-    l: &'a [u32],
-    r: &'a [u32],
+pub fn write_tree(
+    o: &[u32],
+    l: &[u32],
+    r: &[u32],
     tree: Tree,
     plan: &[u32],
     n: usize,
@@ -115,9 +144,8 @@ pub fn write_tree<'a>(
     let mut at = row::copy_words(&l[0..20], out, 0);
     let mut k = 0;
     while k < n {
-        let d = decode(plan, k);
-        let part = source(o, l, r, tree, d);
-        at = row::copy_words(part, out, at);
+        let s = takes(tree, decode(plan, k));
+        at = copy_source(o, l, r, s, out, at);
         k += 1;
     }
     at

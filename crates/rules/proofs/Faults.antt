@@ -1,7 +1,7 @@
 -- The order of faults: an acceptance passes every check, and what passes every check is accepted.
 use mathlib.Core.Path.{_≡_, refl}
-use mathlib.Core.List.{List, [], _∷_}
-use mathlib.Core.Bool.{Bool, true, false}
+use mathlib.Core.List.{List, [], _∷_, _++_}
+use mathlib.Core.Bool.{Bool, true, false, cond}
 use lib.Dec.{leb}
 use Prim.Native.Nat.{ℕ, _/_, _≤_}
 use borrow.Author.Tests.{le-leb, leb-true}
@@ -20,6 +20,11 @@ pub first-passed : (a : Answer) (more : List Answer) (last : Answer) → isAccep
 unfolding firstRefusal
 first-passed (Accepted p) more last h = (refl, h)
 first-passed (Refused n s p) more last h = (h, never (cc))
+
+-- one check and the last answer
+pub first-both : (a last : Answer) → isAccepted (firstRefusal (a ∷ []) last) ≡ true → (isAccepted a ≡ true) × (isAccepted last ≡ true)
+unfolding firstRefusal
+first-both a last h = first-passed a [] last h
 
 pub first-accepted : (a : Answer) (more : List Answer) (last : Answer) → isAccepted a ≡ true → firstRefusal (a ∷ more) last ≡ firstRefusal more last
 unfolding firstRefusal
@@ -56,3 +61,11 @@ room-parts n lent h =
 pub room-fits : (n lent : ℕ) → n ≤ 4096 → n ≤ lent / 20 → roomRule n lent ≡ true
 unfolding roomRule
 room-fits n lent a b = rw (le-leb _ _ a, le-leb _ _ b)
+
+-- checks one after the other: the later ones count only where the earlier ones pass
+pub first-append : (xs ys : List Answer) (last : Answer)
+    → firstRefusal (xs ++ ys) last ≡ cond (isAccepted (firstRefusal xs (Accepted 0))) (firstRefusal ys last) (firstRefusal xs (Accepted 0))
+unfolding firstRefusal
+first-append [] ys last = refl
+first-append (Accepted p ∷ xs) ys last = first-append xs ys last
+first-append (Refused n s p ∷ xs) ys last = refl

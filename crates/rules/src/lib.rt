@@ -7,6 +7,7 @@ ghost use Rattle.tree.specs.Rules.{zeros, bytes, zeroFilled, goodName};
 ghost use Rattle.row.specs.Table.{rowAt, name, depth};
 ghost use Rattle.rules.specs.Rules.{before, depthRule, kindRule, ascends, okRow, checked};
 ghost use Rattle.rules.specs.Refusal.{refusalOf};
+ghost use Rattle.rules.specs.Faults.{firstRefusal, unless, roomRule};
 ghost use Rattle.rules.specs.Contract.{CheckContract};
 
 // The answer of a call that has one place.
@@ -239,6 +240,44 @@ pub fn refusal(c: Checked, side: u32) -> Answer
             place: i,
         },
     }
+}
+
+// The answer to a check that has no place.
+pub fn unless_refused(ok: bool, number: u32, side: u32) -> Answer
+    ensures { λ r. ⌜ r ≡ unless ok number side ⌝ }
+{
+    if ok {
+        return Answer::Accepted { place: 0 };
+    }
+    Answer::Refused {
+        number,
+        side,
+        place: 0,
+    }
+}
+
+// The answer to one check and then to others.
+pub fn first_of(check: Answer, others: Answer) -> Answer
+    ensures { λ r. ⌜ r ≡ firstRefusal (check ∷ []) others ⌝ }
+{
+    match check {
+        Answer::Accepted { place: _ } => others,
+        Answer::Refused {
+            number: _,
+            side: _,
+            place: _,
+        } => check,
+    }
+}
+
+// Whether a result of n rows is not too long, and has room in the words lent.
+pub fn has_room(n: usize, lent: usize) -> bool
+    ensures { λ r. ⌜ r ≡ roomRule n lent ⌝ }
+{
+    if n <= 4096 {
+        return n <= lent / 20;
+    }
+    false
 }
 
 // Whether a table keeps the rules: numbers 1 and 2, side 1.

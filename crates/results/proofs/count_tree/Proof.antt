@@ -7,7 +7,7 @@ use borrow.Author.Needs.{needs}
 use Rattle.results.specs.Decisions.{decisions}
 use Rattle.results.specs.Pieces.{pieceOf, newTree}
 use Rattle.results.proofs.Rest.{Counting, count-start, count-next, count-end}
-use Rattle.results.proofs.Pieces.{piece-small, tree-length}
+use Rattle.results.proofs.Pieces.{source-small, tree-length}
 use Rattle.results.proofs.count_tree.Statement.{statement}
 use Rattle.results.proofs.count_tree.Tie as tie
 
@@ -25,20 +25,21 @@ loop-holds c =
 
 add-sum : tie.Need-add-sum Inv-loop μ-loop
 add-sum c =
-    let s = c .before .before .before .before .before .before .before .before in
+    let s = c .before .before .before .before .before .before .before .before .before in
     let a = s .args in
-    let b = piece-small (a .o .now) (a .l .now) (a .r .now) (s .pre .0) (a .tree) (c .before .decode .result) in
-    let e : length (c .source .result .now) ≤ 81920 = omega (arith, ap length (c .source .ensures)) in
+    let b = source-small (a .o .now) (a .l .now) (a .r .now) (s .pre .0) (c .before .takes .result) in
+    let e : c .source-len .result ≤ 81920 = omega (arith, c .source-len .ensures) in
     search needs
 
 loop-again : tie.Need-loop-again Inv-loop μ-loop
 loop-again c =
-    let l = c .before .before .before in
+    let d = c .before .before in
+    let l = d .before .before in
     let s = l .before .before .before .before .before in
     let a = s .args in
-    let b = piece-small (a .o .now) (a .l .now) (a .r .now) (s .pre .0) (a .tree) (c .before .decode .result) in
-    let e = ap length (c .source .ensures) in
-    count-next (l .loop .inv) (search needs) (rw (c .before .decode .ensures) at e) (omega arith)
+    let b = source-small (a .o .now) (a .l .now) (a .r .now) (s .pre .0) (c .before .takes .result) in
+    let e = rw (c .before .takes .ensures, d .decode .ensures) at (c .source-len .ensures) in
+    count-next (l .loop .inv) (search needs) e (omega arith)
 
 returns : tie.Need-returns Inv-loop μ-loop
 returns c = count-end (c .before .loop .inv) (c .loop-test .left)
@@ -50,6 +51,7 @@ count-tree-spec =
     Inv-loop
     μ-loop
     loop-holds
+    (λ c κs. search needs)
     (λ c κs. search needs)
     (λ c κs. search needs)
     add-sum

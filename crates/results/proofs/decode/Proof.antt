@@ -24,7 +24,8 @@ returns-3 c =
 returns-4 : tie.Need-returns-4
 returns-4 c =
     let a = c .before .before .before .before .before .args in
-    sym (decision-at (a .plan .now) (a .k) ∙ rw (ne-eqb _ _ (c .match .rest .0 .0 .1), ne-eqb _ _ (c .match .rest .0 .1), ne-eqb _ _ (c .match .rest .1)))
+    let n = c .match .rest in
+    sym (decision-at (a .plan .now) (a .k) ∙ rw (ne-eqb _ _ (n .0 .0 .1), ne-eqb _ _ (n .0 .1), ne-eqb _ _ (n .1)))
 
 pub decode-spec : {M : Type 1} → statement M
 decode-spec =

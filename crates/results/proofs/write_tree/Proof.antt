@@ -26,8 +26,9 @@ copy-words-requires c κs =
 loop-holds : tie.Need-loop-holds Inv-loop μ-loop
 loop-holds c = write-start
 
-copy-words-requires-2 : tie.Need-copy-words-requires-2 Inv-loop μ-loop
-copy-words-requires-2 c κs =
+-- there is room for the pieces behind the root's row
+copy-source-requires : tie.Need-copy-source-requires Inv-loop μ-loop
+copy-source-requires c κs =
     let d = c .before .before in
     let l = d .before .before in
     let w = l .before .before .before in
@@ -36,7 +37,7 @@ copy-words-requires-2 c κs =
     let y = decisions (a .n) (a .plan .now) in
     let q = w .copy-words in
     let m = tree-room (a .tree) (a .o .now) (a .l .now) (a .r .now) y (s .pre .1 .1 .1) (q .ensures .0) (q .kept .1 .0) in
-    rw (c .before .source .ensures, d .decode .ensures) (room (l .loop .inv) (search needs) m)
+    (s .pre .0, rw (c .before .takes .ensures, d .decode .ensures) (room (l .loop .inv) (search needs) m))
 
 loop-again : tie.Need-loop-again Inv-loop μ-loop
 loop-again c =
@@ -49,8 +50,8 @@ loop-again c =
     let y = decisions (a .n) (a .plan .now) in
     let q = w .copy-words in
     let m = tree-room (a .tree) (a .o .now) (a .l .now) (a .r .now) y (s .pre .1 .1 .1) (q .ensures .0) (q .kept .1 .0) in
-    let e = rw (v .before .before .source .ensures, d .decode .ensures) at (v .copy-words2 .ensures) in
-    write-next (l .loop .inv) (search needs) m (v .copy-words2 .kept .1 .0) (copied e)
+    let e = rw (v .before .before .takes .ensures, d .decode .ensures) at (v .copy-source .ensures) in
+    write-next (l .loop .inv) (search needs) m (v .copy-source .kept .1 .1 .1 .1 .0) e
 
 same-length : tie.Need-same-length Inv-loop μ-loop
 same-length c = c .before .loop .inv .same ∙ c .before .before .before .before .copy-words .kept .1 .0
@@ -74,7 +75,7 @@ write-tree-spec =
     loop-holds
     (λ c κs. search needs)
     (λ c κs. search needs)
-    copy-words-requires-2
+    copy-source-requires
     (λ c. search needs)
     (λ c. search needs)
     loop-again

@@ -1,0 +1,2 @@
+-- The rows that a list entry carries.
+pub mod Carried

@@ -1,0 +1,10 @@
+-- Writing a table has one outcome: two answers and two texts that keep its contract are the same.
+use mathlib.Core.Path.{_≡_, sym, _∙_}
+use mathlib.Core.List.{List}
+use Prim.Native.Nat.{ℕ}
+use Rattle.rules.specs.declared.Answer.{Answer}
+use Rattle.rules.proofs.Says.{says-one}
+use Rattle.listing_write.specs.Contract.{WriteContract}
+
+pub write-one : (w d : List ℕ) (a b : Answer) (s t : List ℕ) → WriteContract w d a s → WriteContract w d b t → (a ≡ b) × (s ≡ t)
+write-one w d a b s t A B = (says-one a b (A .says) (B .says), A .written ∙ sym (B .written))

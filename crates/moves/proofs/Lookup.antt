@@ -1,0 +1,126 @@
+-- What a path leads to in a checked table: the row of a folder, and the words of what stands there.
+use mathlib.Core.Path.{_≡_, refl, sym, ap, subst, _∙_}
+use mathlib.Core.List.{List, [], _++_}
+use mathlib.Core.Bool.{cond}
+use native.Mathlib.Omega.{arith}
+use lib.ListN.{length, take, drop, getD}
+use Prim.Native.Nat.{ℕ, suc, _+_, _*_, _-_, _≤_}
+use Rattle.tree.specs.Name.{Name}
+use Rattle.tree.specs.Forest.{Forest, Node, Node.absent, Node.file, Node.folder, TreePath, Present, at}
+use Rattle.row.specs.Table.{rowAt, kind, flat}
+use Rattle.row.specs.Tree.{fileRow, folderRow, rowsOf, nodeRows, rootName, treeOf}
+use Rattle.rules.specs.declared.Checked.the-variants.{Fine}
+use Rattle.rules.specs.Rules.{checked}
+use Rattle.find.specs.declared.Found.{Found}
+use Rattle.find.specs.declared.Found.the-variants.{At, Nothing}
+use Rattle.find.specs.Entry.{Finds}
+use Rattle.find.specs.Subtree.{endOf, subtree}
+use Rattle.path.specs.Follow.{follow}
+use Rattle.stands.specs.Stands.{Stands, RuledNode, Holds, foundAt}
+use Rattle.stands.specs.Around.{rowIn, nameOn}
+use Rattle.carry.specs.Carried.{wordsAt}
+use mir.Val.{Fits}
+use mir.Syntax.{w32}
+use Rattle.tree.proofs.Never.{never}
+use Rattle.rules.proofs.Fine.{fine-most, fine-length}
+use Rattle.path.proofs.Follow.{inside-at, part-length}
+use Rattle.rules.proofs.Small.{small-all}
+use Rattle.stands.proofs.Rows.{head}
+use Rattle.carry.proofs.Nodes.{table-holds, node-words}
+use Rattle.stands.proofs.Path.{ruled-at, follow-at, leads}
+use Rattle.moves.specs.Move.{isFolder}
+use Rattle.moves.specs.Pieces.{folderAt, WordsAt}
+
+-- a checked table that is a slice, whose words are of 32 bits, holds its tree
+pub slice-holds : (w : List ℕ) → checked w ≡ Fine → ((k : ℕ) → Fits w32 (getD w k 0)) → Holds w 0 rootName (folder (treeOf w))
+slice-holds w e s = table-holds w e (small-all w (λ k. omega (arith, s k)))
+
+pub fine-some : (w : List ℕ) → checked w ≡ Fine → 20 ≤ length w
+fine-some w e = omega (arith, fine-length w e)
+
+found-row : (y : Node) (i j : ℕ) → foundAt y j ≡ At i → Present y × (j ≡ i)
+found-row absent i j e = never (cc)
+found-row (file c) i j e = (tt, cc)
+found-row (folder k) i j e = (tt, cc)
+
+found-none : (y : Node) (j : ℕ) → foundAt y j ≡ Nothing → y ≡ absent
+found-none absent j e = refl
+found-none (file c) j e = never (cc)
+found-none (folder k) j e = never (cc)
+
+-- a folder's row has kind 0, a file's kind 1
+abbrev kindOf : Node → ℕ
+kindOf absent = 0
+kindOf (file c) = 1
+kindOf (folder k) = 0
+
+kind-at : (w : List ℕ) (i d : ℕ) (n : Name) (y : Node) → Present y → Stands w i d n y → RuledNode y → kind (rowAt w i) ≡ kindOf y
+unfolding nodeRows
+kind-at w i d n absent h s u = absurd h
+kind-at w i d n (file c) h s u = ap kind (head w i (fileRow d n c) (s .rest) (s .here) .row) ∙ u .kind
+kind-at w i d n (folder k) h s u = ap kind (head w i (folderRow d n) (rowsOf (suc d) k ++ s .rest) (s .here) .row)
+
+-- a path looked up in a table
+module _ (w : List ℕ) (C : checked w ≡ Fine) (s : (k : ℕ) → Fits w32 (getD w k 0)) (p : TreePath) (r : Found) (e : Finds w (follow p w) r) where
+  abbrev f : Forest
+  f = treeOf w
+
+  abbrev y : Node
+  y = at (folder f) p
+
+  H : Holds w 0 rootName (folder f)
+  H = slice-holds w C s
+
+  found : r ≡ foundAt y (rowIn (folder f) p)
+  found = e .answer ∙ follow-at p w 0 rootName (folder f) H
+
+  module _ (i : ℕ) (h : r ≡ At i) where
+    here : Present y × (rowIn (folder f) p ≡ i)
+    here = found-row y i (rowIn (folder f) p) (sym found ∙ h)
+
+    stands : Stands w i (0 + length p) (nameOn rootName p) y
+    stands = subst (λ (j : ℕ). Stands w j (0 + length p) (nameOn rootName p) y) (here .1) (leads p w 0 rootName (folder f) H (here .0) .stands)
+
+    words-found : subtree w i ≡ wordsAt f p
+    words-found = ap (subtree w) (sym (here .1)) ∙ node-words w f p H (here .0)
+
+    -- the subtree there, as the part that code lends, is the words of what stands at the path
+    pub words-part : (z : ℕ) → (z ≡ endOf w i) × (20 * z ≤ length w) → WordsAt f p (take (20 * z - 20 * i) (drop (20 * i) w))
+    words-part z q =
+        let k = part-length w i z (omega (arith, q .0)) (q .1) in
+        let m = fine-most w C in
+        record { words = ap (λ (z : ℕ). take (20 * z - 20 * i) (drop (20 * i) w)) (q .0) ∙ words-found; rows = record { whole = omega arith; most = omega arith } }
+
+    kind-here : kind (rowAt w i) ≡ kindOf y
+    kind-here = kind-at w i (0 + length p) (nameOn rootName p) y (here .0) stands (ruled-at p (folder f) (H .ruled))
+
+    -- its row's kind tells whether it is a folder
+    pub folder-found : kind (rowAt w i) ≡ 0 → Finds w (folderAt f p) (At i)
+    unfolding folderAt
+    folder-found z = record { answer = sym (go y (here .0) (sym kind-here ∙ z)); inside = inside-at w r i h (e .inside) }
+      where
+        go : (x : Node) → Present x → kindOf x ≡ 0 → cond (isFolder x) (At (rowIn (folder f) p)) Nothing ≡ At i
+        go absent h k = absurd h
+        go (file c) h k = absurd (omega arith)
+        go (folder j) h k = ap At (here .1)
+
+    pub file-found : (kind (rowAt w i) ≡ 0 → ⊥) → Finds w (folderAt f p) Nothing
+    unfolding folderAt
+    file-found z = record { answer = sym (go y (λ k. z (kind-here ∙ k))); inside = tt }
+      where
+        go : (x : Node) → (kindOf x ≡ 0 → ⊥) → cond (isFolder x) (At (rowIn (folder f) p)) Nothing ≡ Nothing
+        go absent k = refl
+        go (file c) k = refl
+        go (folder j) k = absurd (k refl)
+
+  module _ (h : r ≡ Nothing) where
+    nothing : y ≡ absent
+    nothing = found-none y (rowIn (folder f) p) (sym found ∙ h)
+
+    pub words-none : WordsAt f p []
+    unfolding wordsAt nodeRows flat
+    words-none = record { words = rw nothing; rows = record { whole = refl; most = omega arith } }
+
+    pub none-found : Finds w (folderAt f p) Nothing
+    unfolding folderAt
+    none-found = record { answer = rw nothing; inside = tt }

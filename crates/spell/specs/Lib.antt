@@ -1,0 +1,2 @@
+-- What a lent buffer holds after bytes were put into it.
+pub mod Puts
