@@ -1,6 +1,6 @@
 -- A run is accepted exactly when the three tables are fine and every result has room.
 use mathlib.Core.Path.{_≡_}
-use mathlib.Core.List.{List, []}
+use mathlib.Core.List.{List}
 use mathlib.Core.Bool.{true}
 use lib.Dec.{leb}
 use lib.ListN.{length}
@@ -13,8 +13,8 @@ use Rattle.rules.specs.Refusal.{refusalOf}
 use Rattle.rules.specs.Rules.{checked}
 use Rattle.rules.specs.Faults.{firstRefusal, unless, roomRule}
 use Rattle.settle.specs.Results.{Outcome}
-use Rattle.rules.proofs.Faults.{first-passed, refusal-fine, unless-true, room-parts, room-fits}
-use Rattle.reconcile.specs.Run.{given, Lent, countsOf, runDue}
+use Rattle.rules.proofs.Faults.{first-passed, first-both, refusal-fine, unless-true, room-parts, room-fits}
+use Rattle.reconcile.specs.Run.{given, Lent, countsOf, tablesDue, roomsDue, runDue}
 
 -- the results of an outcome have room
 pub record Room (u : Outcome) (b : Lent) : Type 0 where
@@ -30,30 +30,30 @@ pub record Passed (o l r : List ℕ) (b : Lent) : Type 0 where
   pub room : Room (given o l r) b
 
 pub passed : (o l r : List ℕ) (b : Lent) → isAccepted (runDue o l r b) ≡ true → Passed o l r b
-unfolding runDue
+unfolding runDue tablesDue roomsDue
 passed o l r b h =
     let n = countsOf (given o l r) in
-    let a = first-passed (refusalOf (checked o) 1) _ (Accepted 0) h in
-    let c = first-passed (refusalOf (checked l) 2) _ (Accepted 0) (a .1) in
-    let d = first-passed (refusalOf (checked r) 3) _ (Accepted 0) (c .1) in
-    let e = first-passed (unless (roomRule (n .archive) (length (b .archive))) 3 1) _ (Accepted 0) (d .1) in
-    let f = first-passed (unless (roomRule (n .left) (length (b .left))) 3 2) _ (Accepted 0) (e .1) in
-    let g = first-passed (unless (roomRule (n .right) (length (b .right))) 3 3) _ (Accepted 0) (f .1) in
-    let k = first-passed (unless (leb (n .list) (length (b .list) / 3)) 3 4) [] (Accepted 0) (g .1) in
+    let t = first-both (tablesDue o l r) _ h in
+    let a = first-passed (refusalOf (checked o) 1) _ (refusalOf (checked r) 3) (t .0) in
+    let c = first-both (refusalOf (checked l) 2) (refusalOf (checked r) 3) (a .1) in
+    let last = unless (leb (n .list) (length (b .list) / 3)) 3 4 in
+    let e = first-passed (unless (roomRule (n .archive) (length (b .archive))) 3 1) _ last (t .1) in
+    let f = first-passed (unless (roomRule (n .left) (length (b .left))) 3 2) _ last (e .1) in
+    let g = first-both (unless (roomRule (n .right) (length (b .right))) 3 3) last (f .1) in
     record {
       fine-archive = refusal-fine (checked o) 1 (a .0);
       fine-left = refusal-fine (checked l) 2 (c .0);
-      fine-right = refusal-fine (checked r) 3 (d .0);
+      fine-right = refusal-fine (checked r) 3 (c .1);
       room = record {
         archive = room-parts (n .archive) (length (b .archive)) (unless-true _ 3 1 (e .0));
         left = room-parts (n .left) (length (b .left)) (unless-true _ 3 2 (f .0));
         right = room-parts (n .right) (length (b .right)) (unless-true _ 3 3 (g .0));
-        list = leb-true (n .list) (length (b .list) / 3) (unless-true _ 3 4 (k .0));
+        list = leb-true (n .list) (length (b .list) / 3) (unless-true _ 3 4 (g .1));
       };
     }
 
 pub accepted : (o l r : List ℕ) (b : Lent) → Passed o l r b → runDue o l r b ≡ Accepted 0
-unfolding runDue firstRefusal
+unfolding runDue tablesDue roomsDue firstRefusal
 accepted o l r b P =
     rw (
       P .fine-archive,

@@ -1,15 +1,8 @@
 -- The answer of a reconciliation: document 01's number, side and place, and the four counts of an accepted one.
-use Prim.Native.Nat.{ℕ}
 use Rattle.rules.specs.declared.Answer.{Answer}
 use Rattle.rules.specs.declared.Answer.the-variants.{Accepted, Refused}
 use Rattle.reconcile.specs.declared.Reconciled.{Reconciled}
-
--- the rows of the new archive, left and right, and the list's entries
-pub record Counts : Type 0 where
-  pub archive : ℕ
-  pub left : ℕ
-  pub right : ℕ
-  pub list : ℕ
+use Rattle.reconcile.specs.declared.Counts.{Counts}
 
 -- what is due, with the counts where it is accepted
 abbrev pub answerWith : Answer → Counts → Reconciled

@@ -10,7 +10,6 @@ use Rattle.settle.specs.Results.{Outcome, outcome}
 use Rattle.row.specs.Buffer.{over}
 use Rattle.row.specs.Tree.{table, treeOf}
 use Rattle.rules.specs.declared.Answer.{Answer}
-use Rattle.rules.specs.declared.Answer.the-variants.{Accepted}
 use Rattle.rules.specs.Answer.{isAccepted}
 use Rattle.rules.specs.Refusal.{refusalOf}
 use Rattle.rules.specs.Rules.{checked}
@@ -19,7 +18,8 @@ use Rattle.plan.specs.Items.{listWords}
 use Rattle.tally.specs.declared.Tally.{Tally}
 use Rattle.tally.specs.Count.{tallyOf}
 use Rattle.reconcile.specs.declared.Reconciled.{Reconciled}
-use Rattle.reconcile.specs.Answer.{Counts, answerWith}
+use Rattle.reconcile.specs.declared.Counts.{Counts}
+use Rattle.reconcile.specs.Answer.{answerWith}
 
 -- what the three trees give
 abbrev pub given : List ℕ → List ℕ → List ℕ → Outcome
@@ -33,22 +33,30 @@ pub record Lent : Type 0 where
   pub list : List ℕ
   pub tally : Tally
 
+abbrev pub lent : List ℕ → List ℕ → List ℕ → List ℕ → Tally → Lent
+lent a l r i t = record { archive = a; left = l; right = r; list = i; tally = t }
+
 abbrev pub countsOf : Outcome → Counts
 countsOf u = record { archive = suc (size (u .archive)); left = suc (size (u .left)); right = suc (size (u .right)); list = length (u .lines) }
 
--- the tables' faults, archive, left, right; then the rooms, archive, left, right, list
+-- the tables' faults: archive, left, right
+unfoldable pub tablesDue : List ℕ → List ℕ → List ℕ → Answer
+tablesDue o l r = firstRefusal (refusalOf (checked o) 1 ∷ refusalOf (checked l) 2 ∷ []) (refusalOf (checked r) 3)
+
+-- the rooms' faults: archive, left, right, list; the numbers are the words lent
+unfoldable pub roomsDue : Counts → ℕ → ℕ → ℕ → ℕ → Answer
+roomsDue c archive left right list =
+    firstRefusal
+    (unless (roomRule (c .archive) archive) 3 1 ∷
+    unless (roomRule (c .left) left) 3 2 ∷
+    unless (roomRule (c .right) right) 3 3 ∷
+    [])
+    (unless (leb (c .list) (list / 3)) 3 4)
+
+-- the tables' faults come first
 unfoldable pub runDue : List ℕ → List ℕ → List ℕ → Lent → Answer
 runDue o l r b =
-    firstRefusal
-    (refusalOf (checked o) 1 ∷
-    refusalOf (checked l) 2 ∷
-    refusalOf (checked r) 3 ∷
-    unless (roomRule (countsOf (given o l r) .archive) (length (b .archive))) 3 1 ∷
-    unless (roomRule (countsOf (given o l r) .left) (length (b .left))) 3 2 ∷
-    unless (roomRule (countsOf (given o l r) .right) (length (b .right))) 3 3 ∷
-    unless (leb (countsOf (given o l r) .list) (length (b .list) / 3)) 3 4 ∷
-    [])
-    (Accepted 0)
+    firstRefusal (tablesDue o l r ∷ []) (roomsDue (countsOf (given o l r)) (length (b .archive)) (length (b .left)) (length (b .right)) (length (b .list)))
 
 -- what an accepted run leaves: each result at the start of its buffer, and the tally of the list
 abbrev pub filled : List ℕ → List ℕ → List ℕ → Lent → Lent

@@ -1,0 +1,64 @@
+-- A run's steps over words: what a plan's decisions give, the rooms they need, and what is left in the buffers.
+use mathlib.Core.Path.{_≡_}
+use mathlib.Core.List.{List}
+use mathlib.Core.Bool.{cond}
+use lib.ListN.{length}
+use Prim.Native.Nat.{ℕ, _/_, _≤_}
+use Rattle.row.specs.Buffer.{over}
+use Rattle.rules.specs.declared.Answer.{Answer}
+use Rattle.rules.specs.Answer.{isAccepted}
+use Rattle.cursor.specs.declared.Decision.{Decision}
+use Rattle.results.specs.declared.Tree.the-variants.{Archive, Left, Right}
+use Rattle.results.specs.Decisions.{pieces}
+use Rattle.results.specs.Pieces.{newTree, pieceList}
+use Rattle.reconcile.specs.declared.Reconciled.{Reconciled}
+use Rattle.reconcile.specs.declared.Counts.{Counts}
+use Rattle.reconcile.specs.Answer.{answerWith}
+use Rattle.reconcile.specs.Run.{given, Lent, countsOf, roomsDue, filled}
+
+-- the words of the new archive, left and right, and of the list
+pub record Words : Type 0 where
+  pub archive : List ℕ
+  pub left : List ℕ
+  pub right : List ℕ
+  pub list : List ℕ
+
+abbrev pub plannedWords : List ℕ → List ℕ → List ℕ → List Decision → Words
+plannedWords o l r ds = record {
+  archive = newTree Archive o l r ds;
+  left = newTree Left o l r ds;
+  right = newTree Right o l r ds;
+  list = pieces pieceList ds;
+}
+
+-- the rows and entries that they are
+abbrev pub plannedCounts : List ℕ → List ℕ → List ℕ → List Decision → Counts
+plannedCounts o l r ds = record {
+  archive = length (newTree Archive o l r ds) / 20;
+  left = length (newTree Left o l r ds) / 20;
+  right = length (newTree Right o l r ds) / 20;
+  list = length (pieces pieceList ds) / 3;
+}
+
+-- there is room for them
+pub record Spacious (w : Words) (a l r i : List ℕ) : Type 0 where
+  pub archive : length (w .archive) ≤ length a
+  pub left : length (w .left) ≤ length l
+  pub right : length (w .right) ≤ length r
+  pub list : length (w .list) ≤ length i
+
+-- each is at the start of its buffer
+pub record Wrote (w : Words) (a l r i a′ l′ r′ i′ : List ℕ) : Type 0 where
+  pub archive : a′ ≡ over a (w .archive)
+  pub left : l′ ≡ over l (w .left)
+  pub right : r′ ≡ over r (w .right)
+  pub list : i′ ≡ over i (w .list)
+
+-- what the rooms are due
+abbrev pub roomDue : List ℕ → List ℕ → List ℕ → Lent → Answer
+roomDue o l r b = roomsDue (countsOf (given o l r)) (length (b .archive)) (length (b .left)) (length (b .right)) (length (b .list))
+
+-- what a run of tables that keep the rules answers and leaves
+pub record Settles (o l r : List ℕ) (before after : Lent) (answer : Reconciled) : Type 0 where
+  pub answered : answer ≡ answerWith (roomDue o l r before) (countsOf (given o l r))
+  pub left-in : after ≡ cond (isAccepted (roomDue o l r before)) (filled o l r before) before
