@@ -4,13 +4,13 @@ use mathlib.Core.List.{List, [], _∷_}
 use mathlib.Core.Bool.{true, _&&_}
 use native.Mathlib.Omega.{arith}
 use lib.Dec.{leb}
-use lib.ListN.{length, take, drop, length-take}
+use lib.ListN.{length, drop, length-take}
 use lib.Seq.{take-at}
-use Prim.Native.Nat.{ℕ, zero, suc, _*_, _/_, _≤_}
+use Prim.Native.Nat.{ℕ, suc, _*_, _/_, _≤_}
 use borrow.Author.Tests.{leb-true}
 use Rattle.tree.specs.Name.{Name}
 use Rattle.tree.specs.Forest.{TreePath, Forest, size}
-use Rattle.tree.specs.Rules.{goodName, NameRule, ContentRule}
+use Rattle.tree.specs.Rules.{NameRule, ContentRule}
 use Rattle.settle.specs.Decision.{Decision.agreed, Decision.leftGets, Decision.rightGets, Decision.clash}
 use Rattle.settle.specs.Results.{Line.line, Lines}
 use Rattle.settle.specs.Resume.{Sides, moved, after}
@@ -19,7 +19,7 @@ use Rattle.row.specs.Tree.{table}
 use Rattle.rules.specs.declared.Answer.the-variants.{Accepted}
 use Rattle.rules.specs.Refusal.{refusalOf}
 use Rattle.rules.specs.Rules.{checked}
-use Rattle.moves.specs.Path.{pathOf, slots, pathRule}
+use Rattle.moves.specs.Path.{Eights, pathOf, slots, pathRule}
 use Rattle.rules.specs.Faults.{unless, roomRule}
 use Rattle.moves.specs.Move.{parentRule, movedWords, moveDue}
 use Rattle.tree.proofs.Same.{and-true}
@@ -27,20 +27,12 @@ use Rattle.tree.proofs.Rules.{NamesOf}
 use Rattle.settle.proofs.Rules.{well-formed-moved}
 use Rattle.row.proofs.Tree.{length-table}
 use Rattle.rules.proofs.Faults.{first-passed, first-last, unless-true, room-parts}
-use Rattle.demands.specs.Demand3.{Slots, Made, Tables, AllCarried}
+use Rattle.moves.proofs.Formed.{names-ruled}
+use Rattle.demands.specs.Demand3.{Made, Tables, AllCarried}
 use Rattle.demands.proofs.Tab.{Tab, tab-tree}
 
--- the names of a path that passed keep the rule
-names-ruled : (n : ℕ) (ms : List Name) → Slots ms → slots n ms ≡ true → NamesOf NameRule ContentRule (take n ms)
-unfolding Slots slots NamesOf
-names-ruled zero [] s h = tt
-names-ruled zero (m ∷ ms) s h = tt
-names-ruled (suc n) [] s h = tt
-names-ruled (suc n) (m ∷ ms) s h =
-    let p = and-true (goodName m) (slots n ms) h in
-    (record { eight = s .0; small = s .1; good = p .0 }, names-ruled n ms (s .2) (p .1))
-
-path-ruled : (names : List Name) (depth : ℕ) → Slots names → pathRule names depth ≡ true
+-- a path that passed keeps the rules
+path-ruled : (names : List Name) (depth : ℕ) → Eights names → pathRule names depth ≡ true
     → NamesOf NameRule ContentRule (pathOf names depth) × (length (pathOf names depth) ≤ 16)
 unfolding pathRule
 path-ruled names depth s h =

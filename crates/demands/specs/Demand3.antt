@@ -7,32 +7,26 @@ use lib.ListN.{length, take}
 use Prim.Native.Nat.{ℕ, _*_, _≤_}
 use Rattle.tree.specs.Name.{Name}
 use Rattle.tree.specs.Forest.{TreePath}
-use Rattle.tree.specs.Rules.{Words32}
 use Rattle.settle.specs.Decision.{Decision.agreed, Decision.leftGets, Decision.rightGets, Decision.clash}
 use Rattle.settle.specs.Results.{Line, Line.line, Lines}
 use Rattle.settle.specs.Resume.{keep, isClash, minus, Chosen}
 use Rattle.row.specs.Buffer.{over}
 use Rattle.row.specs.Tree.{table, treeOf}
 use Rattle.rules.specs.Answer.{placeOf, isAccepted}
-use Rattle.moves.specs.Path.{pathOf}
+use Rattle.moves.specs.Path.{Eights, pathOf}
 use Rattle.moves.specs.Move.{moveOf}
 use Rattle.plan.specs.Items.{listWords}
 use Rattle.reconcile.specs.Run.{given, Lent, runDue, runOf}
-
--- the slots of a path that a call is given: eight words of 32 bits each
-unfoldable pub Slots : List Name → Type 0
-Slots [] = Unit {0}
-Slots (n ∷ ns) = (length n ≡ 8) × Words32 n × Slots ns
 
 -- a call of make_move for the path p that was accepted, with any room, and the table that it left there
 pub record Made (p : TreePath) (target source result : List ℕ) : Type 0 where
   pub names : List Name
   pub depth : ℕ
   pub room : List ℕ
-  pub slots : Slots names
+  pub slots : Eights names
   pub path : pathOf names depth ≡ p
   pub accepted : isAccepted (moveOf target source names depth room .answer) ≡ true
-  pub table-left : result ≡ take (20 * placeOf (moveOf target source names depth room .answer)) (moveOf target source names depth room .result)
+  pub table-left : result ≡ take (20 * placeOf (moveOf target source names depth room .answer)) (moveOf target source names depth room .room)
 
 -- the two sides' tables while moves are carried out
 pub record Tables : Type 0 where

@@ -18,16 +18,12 @@ use Rattle.row.proofs.Tree.{length-table, tree-table}
 use Rattle.settle.proofs.Rules.{well-formed-moved}
 use Rattle.rules.proofs.Faults.{room-parts}
 use Rattle.rules.proofs.Fine.{fine-formed, table-fine}
-use Rattle.moves.specs.Path.{pathOf, slots}
+use Rattle.moves.specs.Path.{Eights, pathOf, slots}
 use Rattle.moves.specs.Move.{movedWords, moveDue}
 use Rattle.moves.proofs.Due.{path-depth, path-slots, Passes, move-passed}
 
--- eight words of 32 bits in every slot, as an array of names has
-unfoldable pub Eights : List Name → Type 0
-Eights [] = Unit {0}
-Eights (n ∷ ns) = (length n ≡ 8) × Words32 n × Eights ns
-
-names-ruled : (n : ℕ) (ms : List Name) → Eights ms → slots n ms ≡ true → NamesOf NameRule ContentRule (take n ms)
+-- the names of a path whose slots are good
+pub names-ruled : (n : ℕ) (ms : List Name) → Eights ms → slots n ms ≡ true → NamesOf NameRule ContentRule (take n ms)
 unfolding Eights slots NamesOf
 names-ruled zero ms h e = tt
 names-ruled (suc n) [] h e = tt

@@ -13,9 +13,8 @@ use Rattle.tree.specs.Rules.{Words32, zeros, NameRule, ContentRule}
 use Rattle.settle.specs.Resume.{moved}
 use Rattle.row.specs.Tree.{rootName, table, treeOf}
 use Rattle.tree.proofs.Rules.{NamesOf}
-use Rattle.moves.specs.Path.{pathOf, slotsOf, slots, pathRule}
+use Rattle.moves.specs.Path.{Eights, pathOf, slotsOf, slots, pathRule}
 use Rattle.moves.specs.Move.{movedWords}
-use Rattle.moves.proofs.Formed.{Eights}
 
 -- k slots of zeros
 empty-slots : (k : ℕ) → slots 0 (replicate k rootName) ≡ true

@@ -1,4 +1,5 @@
 -- A path as a call is given it: sixteen names of eight words each, and a depth.
+use mathlib.Core.Path.{_≡_}
 use mathlib.Core.List.{List, [], _∷_, _++_}
 use mathlib.Core.Bool.{Bool, true, _&&_}
 use lib.Dec.{leb}
@@ -6,7 +7,7 @@ use lib.ListN.{length, take, replicate}
 use Prim.Native.Nat.{ℕ, zero, suc, _-_}
 use Rattle.tree.specs.Name.{Name}
 use Rattle.tree.specs.Forest.{TreePath}
-use Rattle.tree.specs.Rules.{zeros, goodName}
+use Rattle.tree.specs.Rules.{Words32, zeros, goodName}
 use Rattle.row.specs.Tree.{rootName}
 
 -- the names within the depth
@@ -30,3 +31,8 @@ slots (suc n) (m ∷ ms) = goodName m && slots n ms
 -- number 5: the depth is 1 to 16, and no slot is bad
 unfoldable pub pathRule : List Name → ℕ → Bool
 pathRule names depth = leb 1 depth && leb depth 16 && slots depth names
+
+-- eight words of 32 bits in every slot, as an array of names has
+unfoldable pub Eights : List Name → Type 0
+Eights [] = Unit {0}
+Eights (n ∷ ns) = (length n ≡ 8) × Words32 n × Eights ns
