@@ -1,11 +1,11 @@
 -- The search for the next entry from row i on, in the words that the code reads.
-use mathlib.Core.Path.{_≡_, refl}
+use mathlib.Core.Path.{_≡_}
 use mathlib.Core.List.{List}
 use native.Mathlib.Omega.{arith}
 use native.Mathlib.Numerals.{add-one}
 use lib.ListN.{length, drop, getD}
-use borrow.Author.Tests.{lt-ltb, le-ltb, eq-eqb, ne-eqb}
 use Prim.Native.Nat.{ℕ, _+_, _*_, _/_, _≤_, _<_}
+use borrow.Author.Tests.{lt-ltb, le-ltb, eq-eqb, ne-eqb}
 use Rattle.row.specs.Table.{rows}
 use Rattle.row.proofs.Table.{rows-cons, rows-nil, depth-at}
 use Rattle.cursor.specs.Cursor.{none, seek}

@@ -19,8 +19,10 @@ pub enum Decision {
     Clash(Rows),
 }
 
+// No table has this row.
 const NONE: u32 = 4294967295;
 
+// Whether a table has row i.
 pub fn is_row(t: &[u32], i: u32) -> bool
     ensures { λ b. ⌜ b ≡ isRow (now (t .entry)) i ⌝ }
 {
@@ -65,6 +67,7 @@ pub fn order_at(w: &[u32], a: u32, v: &[u32], b: u32) -> row::Order
     row::Order::Same
 }
 
+// Whether the first of two names is not after the second.
 fn not_after(x: row::Order) -> bool
     ensures { λ r. ⌜ r ≡ notAfter x ⌝ }
 {
@@ -87,6 +90,7 @@ fn kept(a: u32, x: row::Order, y: row::Order) -> u32
     NONE
 }
 
+// The order of two names, the second first.
 fn turn(x: row::Order) -> row::Order
     ensures { λ r. ⌜ r ≡ turned x ⌝ }
 {
@@ -130,6 +134,7 @@ pub fn behind_at(w: &[u32], d: u32, a: u32, t: u32) -> u32
     }
 }
 
+// Whether row i is a folder's.
 pub fn is_folder(t: &[u32], i: u32) -> bool
     ensures { λ b. ⌜ b ≡ isFolder (now (t .entry)) i ⌝ }
 {

@@ -4,6 +4,7 @@ ghost use Prim.Native.Nat.{_≤_};
 ghost use Rattle.listing.specs.Bytes.{classOf, Digit};
 ghost use Rattle.listing.specs.Lines.{byEnd, beginOf, stepOf, isDone};
 
+// What a byte may be in a text.
 pub enum Class {
     Plain,
     Escape,

@@ -1,1 +1,2 @@
+-- The laws of the settle cycle.
 pub mod Cycle

@@ -8,6 +8,7 @@ ghost use Rattle.row.specs.Table.{rowAt, name};
 ghost use Rattle.row.specs.Order.{ordered};
 ghost use Rattle.row.specs.Buffer.{written};
 
+// How two names stand to each other.
 pub enum Order {
     Less,
     Same,

@@ -12,8 +12,8 @@ use Rattle.tree.specs.Rules.{NameRule, ContentRule, Within}
 use Rattle.row.specs.Table.{Row, name}
 use Rattle.row.specs.Tree.{fileRow, folderRow, rowsOf, nodeRows}
 use Rattle.find.specs.Subtree.{run}
+use Rattle.row.proofs.Flat.{Whole, whole-append}
 use Rattle.stands.specs.Stands.{Ended, rowCount, Ruled, RuledNode}
-use Rattle.stands.proofs.Rows.{Wide, wide-append}
 
 pub length-rowsOf : (d : ℕ) (f : Forest) → length (rowsOf d f) ≡ size f
 unfolding rowsOf size
@@ -66,14 +66,14 @@ wide-file d n c h k = simp (length-append, length-drop) (let e = k .eleven in om
 wide-folder : (d : ℕ) (n : Name) → length n ≡ 8 → length (folderRow d n) ≡ 20
 wide-folder d n h = simp length-append (omega arith)
 
-pub wide-rowsOf : (d : ℕ) (f : Forest) → Ruled f → Wide (rowsOf d f)
-unfolding rowsOf Ruled Wide
+pub wide-rowsOf : (d : ℕ) (f : Forest) → Ruled f → Whole (rowsOf d f)
+unfolding rowsOf Ruled Whole
 wide-rowsOf d end h = tt
 wide-rowsOf d (leaf n c s) h = (wide-file d n c (h .0 .eight) (h .1), wide-rowsOf d s (h .2))
-wide-rowsOf d (dir n k s) h = (wide-folder d n (h .0 .eight), wide-append (rowsOf (suc d) k) (rowsOf d s) (wide-rowsOf (suc d) k (h .1)) (wide-rowsOf d s (h .2)))
+wide-rowsOf d (dir n k s) h = (wide-folder d n (h .0 .eight), whole-append (rowsOf (suc d) k) (rowsOf d s) (wide-rowsOf (suc d) k (h .1)) (wide-rowsOf d s (h .2)))
 
-pub wide-nodeRows : (d : ℕ) (n : Name) (x : Node) → length n ≡ 8 → RuledNode x → Wide (nodeRows d n x)
-unfolding nodeRows Wide
+pub wide-nodeRows : (d : ℕ) (n : Name) (x : Node) → length n ≡ 8 → RuledNode x → Whole (nodeRows d n x)
+unfolding nodeRows Whole
 wide-nodeRows d n absent e h = tt
 wide-nodeRows d n (file c) e h = (wide-file d n c e h, tt)
 wide-nodeRows d n (folder k) e h = (wide-folder d n e, wide-rowsOf (suc d) k h)

@@ -12,9 +12,10 @@ use Rattle.row.specs.Table.{Row, flat}
 use Rattle.row.specs.Tree.{folderRow, rowsOf, nodeRows}
 use Rattle.find.specs.Entry.{place}
 use Rattle.tree.proofs.Forest.{sorted-find, sorted-at}
+use Rattle.row.proofs.Flat.{Whole, flat-append, length-flat}
 use Rattle.stands.specs.Stands.{Stands, rowCount, Ruled, Holds}
 use Rattle.stands.specs.Around.{before, behind, entryEnd, rowIn, nameOn, Reaches, front, back}
-use Rattle.stands.proofs.Rows.{cut, Wide, wide-front, wide-back, flat-append, length-flat}
+use Rattle.stands.proofs.Rows.{cut, whole-front, whole-back}
 use Rattle.stands.proofs.Forest.{length-rowsOf, length-nodeRows, wide-nodeRows}
 use Rattle.stands.proofs.Around.{update-find, rows-update}
 use Rattle.stands.proofs.Entry.{folder-place, folder-end}
@@ -66,9 +67,9 @@ module _ (p : TreePath) (w : List ℕ) (d : ℕ) (m : Name) (x : Node) (h : Hold
       let b = nodeRows (d + length p) (nameOn m p) (at x p) in
       let c = back d x p in
       let e : nodeRows d m x ≡ a ++ (b ++ c) = ap (nodeRows d m) (sym (put-at p x (h .sorted))) ∙ put-rows p d m (at x p) x g in
-      let v : Wide (a ++ (b ++ c)) = rw e at (wide-nodeRows d m x (h .eight) (h .ruled)) in
-      let i : length (flat a) ≡ 20 * rowIn x p = length-flat a (wide-front a (b ++ c) v) ∙ rw (length-front p d m x) in
-      let j : length (flat b) ≡ 20 * rowCount (at x p) = length-flat b (wide-front b c (wide-back a (b ++ c) v)) ∙ rw (length-nodeRows (d + length p) (nameOn m p) (at x p)) in
+      let v : Whole (a ++ (b ++ c)) = rw e at (wide-nodeRows d m x (h .eight) (h .ruled)) in
+      let i : length (flat a) ≡ 20 * rowIn x p = length-flat a (whole-front a (b ++ c) v) ∙ rw (length-front p d m x) in
+      let j : length (flat b) ≡ 20 * rowCount (at x p) = length-flat b (whole-front b c (whole-back a (b ++ c) v)) ∙ rw (length-nodeRows (d + length p) (nameOn m p) (at x p)) in
       let q = cut w (flat a) (flat b) (flat c) (20 * rowIn x p) (20 * (rowIn x p + rowCount (at x p))) (h .words ∙ ap flat e ∙ flat-three a b c) i (omega arith) in
       rw (q .0, q .1) (ap flat (put-rows p d m y x g) ∙ flat-three a (nodeRows (d + length p) (nameOn m p) y) c)
 

@@ -9,6 +9,7 @@ use lib.Seq.{take-at, drop-at, take-add, drop-drop}
 use Prim.Native.Nat.{ℕ, zero, suc, _+_, _*_, _-_, _/_, _≤_, _<_}
 use Rattle.row.specs.Table.{Row, rowAt, rowsN, rows, flat}
 use Rattle.row.proofs.Table.{length-rowsN, rows-cons}
+use Rattle.row.proofs.Flat.{Whole}
 
 take-rowsN : (m k : ℕ) (w : List ℕ) → m ≤ k → take m (rowsN k w) ≡ rowsN m w
 unfolding rowsN
@@ -54,45 +55,16 @@ head w i r rs e =
     let c : rowAt w i ∷ drop (suc i) (rows w) ≡ r ∷ rs = sym (rows-cons w i h) ∙ e in
     record { is = h; row = cc; next = rw add-one (cc) }
 
--- every row has its twenty words
-unfoldable pub Wide : List Row → Type 0
-Wide [] = Unit {0}
-Wide (r ∷ rs) = (length r ≡ 20) × Wide rs
+-- rows of twenty words, in two parts
+pub whole-front : (a b : List Row) → Whole (a ++ b) → Whole a
+unfolding Whole
+whole-front [] b h = tt
+whole-front (r ∷ a) b h = (h .0, whole-front a b (h .1))
 
-pub wide-append : (a b : List Row) → Wide a → Wide b → Wide (a ++ b)
-unfolding Wide
-wide-append [] b h k = k
-wide-append (r ∷ a) b h k = (h .0, wide-append a b (h .1) k)
-
-pub wide-front : (a b : List Row) → Wide (a ++ b) → Wide a
-unfolding Wide
-wide-front [] b h = tt
-wide-front (r ∷ a) b h = (h .0, wide-front a b (h .1))
-
-pub wide-back : (a b : List Row) → Wide (a ++ b) → Wide b
-unfolding Wide
-wide-back [] b h = h
-wide-back (r ∷ a) b h = wide-back a b (h .1)
-
-pub length-flat : (rs : List Row) → Wide rs → length (flat rs) ≡ 20 * length rs
-unfolding flat Wide
-length-flat [] h = refl
-length-flat (r ∷ rs) h = length-append r (flat rs) ∙ (let e = length-flat rs (h .1) in let f = h .0 in omega arith)
-
-rowsN-flat : (rs : List Row) → Wide rs → rowsN (length rs) (flat rs) ≡ rs
-unfolding flat Wide rowsN
-rowsN-flat [] h = refl
-rowsN-flat (r ∷ rs) h = rw (take-at r (flat rs) 20 (h .0), drop-at r (flat rs) 20 (h .0), rowsN-flat rs (h .1))
-
-pub rows-flat : (rs : List Row) → Wide rs → rows (flat rs) ≡ rs
-rows-flat rs h =
-    let e : length (flat rs) / 20 ≡ length rs = omega (arith, length-flat rs h) in
-    rw e (rowsN-flat rs h)
-
-pub flat-append : (a b : List Row) → flat (a ++ b) ≡ flat a ++ flat b
-unfolding flat
-flat-append [] b = refl
-flat-append (r ∷ a) b = rw (flat-append a b) (sym (append-assoc r (flat a) (flat b)))
+pub whole-back : (a b : List Row) → Whole (a ++ b) → Whole b
+unfolding Whole
+whole-back [] b h = h
+whole-back (r ∷ a) b h = whole-back a b (h .1)
 
 -- a list in three pieces, cut at the ends of the first and the second
 pub cut : {A : Type 0} (l a b c : List A) (i k : ℕ) → l ≡ a ++ (b ++ c) → length a ≡ i → length a + length b ≡ k → (take i l ≡ a) × (drop k l ≡ c)

@@ -15,8 +15,8 @@ use Rattle.row.specs.Tree.{fileRow, folderRow, rowsOf, nodeRows}
 use Rattle.find.specs.Subtree.{subtree}
 use Rattle.tree.proofs.Same.{sameWords-refl, sameWords-eq, sameNode-eq, sameNode-true}
 use Rattle.tree.proofs.Never.{never}
+use Rattle.row.proofs.Flat.{rows-flat}
 use Rattle.stands.specs.Stands.{Ended, StandsOr, Ruled, RuledNode}
-use Rattle.stands.proofs.Rows.{rows-flat}
 use Rattle.stands.proofs.Subtree.{held-words}
 use Rattle.stands.proofs.Forest.{ended-up, ended-rows, file-name, folder-name, wide-nodeRows}
 

@@ -13,8 +13,9 @@ use Rattle.row.specs.Tree.{folderRow, fileRow, rowsOf, nodeRows, rootName, tabl
 use Rattle.find.specs.declared.Found.the-variants.{At}
 use Rattle.find.specs.Subtree.{run, endOf, subtree}
 use Rattle.find.proofs.Walk.{subtree-none}
+use Rattle.row.proofs.Flat.{rows-flat}
 use Rattle.stands.specs.Stands.{Stands, StandsOr, rowCount, foundAt, Holds}
-use Rattle.stands.proofs.Rows.{words-rows, length-rows-from, head, rows-flat}
+use Rattle.stands.proofs.Rows.{words-rows, length-rows-from, head}
 use Rattle.stands.proofs.Forest.{length-nodeRows, run-ended, run-rows, wide-nodeRows, ruled-within}
 
 pub present-found : (x : Node) (i : ℕ) → Present x → foundAt x i ≡ At i

@@ -150,6 +150,7 @@ fn show_each(table: &mut [u32], text: &mut [u8])
     show(table, text);
 }
 
+// The listing, and then the refusals.
 fn main() {
     let mut table = [0u32; 520];
     fill_files(&mut table);

@@ -1,10 +1,10 @@
-use native.Mathlib.Omega.{arith}
-use mathlib.Core.Path.{_≡_, refl, sym, ap, ap₂, _∙_}
-use Prim.Native.Nat.{_<_, _≤_, _/_}
+-- `cursor::behind_at` meets its contract: the entry is passed where it was taken.
+use mathlib.Core.Path.{_∙_}
 use lib.ListN.{length}
+use Prim.Native.Nat.{_<_, _≤_, _/_}
 use borrow.Author.Tests.{lt-ltb, le-ltb}
-use Rattle.cursor.specs.Cursor.{behind}
 use borrow.Author.Needs.{needs}
+use Rattle.cursor.specs.Cursor.{behind}
 use Rattle.cursor.proofs.behind_at.Statement.{statement}
 use Rattle.cursor.proofs.behind_at.Tie as tie
 

@@ -1,7 +1,6 @@
-use native.Mathlib.Omega.{arith}
-use mathlib.Core.Path.{_≡_, refl, sym, ap, ap₂, _∙_}
-use Rattle.cursor.specs.Cursor.{decision}
+-- `cursor::decide` meets its contract: three comparisons of subtrees, in turn.
 use borrow.Author.Needs.{needs}
+use Rattle.cursor.specs.Cursor.{decision}
 use Rattle.cursor.proofs.decide.Statement.{statement}
 use Rattle.cursor.proofs.decide.Tie as tie
 

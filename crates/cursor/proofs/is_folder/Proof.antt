@@ -1,10 +1,9 @@
-use native.Mathlib.Omega.{arith}
-use mathlib.Core.Path.{_≡_, refl, sym, ap, _∙_}
-use Prim.Native.Nat.{_<_, _≤_, _/_}
+-- `cursor::is_folder` meets its contract: a row of kind 0.
 use lib.ListN.{length}
+use Prim.Native.Nat.{_<_, _≤_, _/_}
 use borrow.Author.Tests.{lt-ltb, le-ltb}
-use Rattle.cursor.specs.Cursor.{isFolder}
 use borrow.Author.Needs.{needs}
+use Rattle.cursor.specs.Cursor.{isFolder}
 use Rattle.cursor.proofs.is_folder.Statement.{statement}
 use Rattle.cursor.proofs.is_folder.Tie as tie
 

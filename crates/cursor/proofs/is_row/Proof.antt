@@ -1,5 +1,4 @@
-use native.Mathlib.Omega.{arith}
-use mathlib.Core.Path.{_≡_, refl, sym, ap, _∙_}
+-- `cursor::is_row` meets its contract: below the count of rows.
 use borrow.Author.Needs.{needs}
 use Rattle.cursor.proofs.is_row.Statement.{statement}
 use Rattle.cursor.proofs.is_row.Tie as tie

@@ -1,4 +1,4 @@
-use native.Mathlib.Omega.{arith}
+-- `cursor::least_of` meets its contract: the least of three names, and the rows that have it.
 use borrow.Author.Needs.{needs}
 use Rattle.cursor.proofs.least_of.Statement.{statement}
 use Rattle.cursor.proofs.least_of.Tie as tie

@@ -1,10 +1,10 @@
-use native.Mathlib.Omega.{arith}
-use mathlib.Core.Path.{_≡_, refl, sym, ap, _∙_}
-use Prim.Native.Nat.{_<_, _≤_, _/_}
+-- `cursor::order_at` meets its contract: two names compared, a missing row last.
+use mathlib.Core.Path.{_∙_}
 use lib.ListN.{length}
+use Prim.Native.Nat.{_<_, _≤_, _/_}
 use borrow.Author.Tests.{lt-ltb, le-ltb}
-use Rattle.cursor.specs.Cursor.{orderAt}
 use borrow.Author.Needs.{needs}
+use Rattle.cursor.specs.Cursor.{orderAt}
 use Rattle.cursor.proofs.order_at.Statement.{statement}
 use Rattle.cursor.proofs.order_at.Tie as tie
 

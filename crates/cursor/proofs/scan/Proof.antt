@@ -1,11 +1,11 @@
-use native.Mathlib.Omega.{arith}
-use mathlib.Core.Path.{_≡_, refl, sym, ap, _∙_}
-use Prim.Native.Nat.{ℕ, zero, _+_, _-_, _≤_}
-use lib.ListN.{length, drop}
+-- `cursor::scan` meets its contract: rows are passed until one is not deeper.
+use mathlib.Core.Path.{_≡_, sym, _∙_}
+use lib.ListN.{drop}
+use Prim.Native.Nat.{_-_}
+use borrow.Author.Needs.{needs}
 use Rattle.row.specs.Table.{rows}
 use Rattle.cursor.specs.Cursor.{seek}
 use Rattle.cursor.proofs.Laws.{seek-end, seek-here, seek-stop, seek-deep}
-use borrow.Author.Needs.{needs}
 use Rattle.cursor.proofs.scan.Statement.{statement}
 use Rattle.cursor.proofs.scan.Tie as tie
 

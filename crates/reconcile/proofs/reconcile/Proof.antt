@@ -1,6 +1,6 @@
--- `reconcile::reconcile` meets its contract: a walk of its MIR, by hand. The borrow of the record is opened and the record is copied; `reconcile_plain` is called on copies of the shared slices, on the `&mut` slices, which are given up to it for good, and on the record; of what it returned one field is stored in the record, whose borrow is closed, and the other is the result.
--- All that the proof knows of `reconcile_plain` is that it meets its contract. The walk's positions were written by a script.
--- Assumes nothing.
+-- `reconcile::reconcile` meets its contract: a walk of its lowered code, by hand. The borrow of the record is opened and the
+-- record copied; `reconcile_plain` is called; of what it returned one field is stored in the record, whose borrow is closed,
+-- and the other is the result. All that is known of `reconcile_plain` is that it meets its contract.
 use mathlib.Core.Path.{_≡_, refl, ap, subst}
 use mathlib.Core.List.{[], _∷_, List}
 use lib.ListN.{length}
