@@ -1,0 +1,2 @@
+-- Laws of spelling: one more byte of a word's bytes.
+mod Spelling

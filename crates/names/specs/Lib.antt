@@ -1,0 +1,2 @@
+-- What reading a name hands back.
+pub mod Names

@@ -1,0 +1,43 @@
+-- One more byte in each scan of a text from place i on.
+use mathlib.Core.Path.{_≡_, refl}
+use mathlib.Core.List.{List, [], _∷_}
+use mathlib.Core.Bool.{true, false, cond}
+use native.Mathlib.Numerals.{add-one}
+use lib.Dec.{eqb}
+use lib.ListN.{length, drop, getD}
+use lib.Seq.{drop-cons}
+use Prim.Native.Nat.{ℕ, suc, _+_, _<_}
+use Rattle.listing.specs.Bytes.{classOf}
+use Rattle.listing.specs.Lines.{stepOf, isDone, lenIn}
+use Rattle.listing.specs.Words.{blank, span, isRefused, isText}
+use Rattle.listing.specs.declared.Mode.{Mode}
+use Rattle.scan.specs.Places.{skip, lineEnds}
+
+module _ (l : List ℕ) (i : ℕ) (h : i < length l) where
+  pub byte-first : drop i l ≡ getD l i 0 ∷ drop (i + 1) l
+  byte-first = rw (add-one, drop-cons l i 0 h)
+
+  pub skip-at : skip (drop i l) ≡ cond (blank (getD l i 0) (drop (i + 1) l)) (suc (skip (drop (i + 1) l))) 0
+  unfolding skip
+  skip-at = rw byte-first
+
+  pub span-at : span (drop i l) ≡ cond (blank (getD l i 0) (drop (i + 1) l)) 0 (suc (span (drop (i + 1) l)))
+  unfolding span
+  span-at = rw byte-first
+
+  pub text-at : isText (drop i l) ≡ cond (isRefused (classOf (getD l i 0))) false (isText (drop (i + 1) l))
+  unfolding isText
+  text-at = rw byte-first
+
+  pub ends-at : lineEnds (drop i l) ≡ cond (eqb (getD l i 0) 10) (suc (lineEnds (drop (i + 1) l))) (lineEnds (drop (i + 1) l))
+  unfolding lineEnds
+  ends-at = rw byte-first
+
+  pub len-at : (m : Mode) → lenIn m (drop i l) ≡ cond (isDone m) 0 (suc (lenIn (stepOf m (classOf (getD l i 0))) (drop (i + 1) l)))
+  unfolding lenIn
+  len-at m = rw byte-first
+
+pub len-done : (l : List ℕ) (m : Mode) → isDone m ≡ true → lenIn m l ≡ 0
+unfolding lenIn
+len-done [] m e = refl
+len-done (b ∷ bs) m e = rw e

@@ -1,0 +1,23 @@
+-- What is counted in a text besides lines and words: the blanks before a word, and LFs.
+use mathlib.Core.Path.{_≡_}
+use mathlib.Core.List.{List, [], _∷_}
+use mathlib.Core.Bool.{cond}
+use lib.Dec.{eqb}
+use lib.ListN.{length}
+use Prim.Native.Nat.{ℕ, suc, _≤_}
+use Rattle.listing.specs.Words.{blank}
+
+-- the blanks before the first other byte
+unfoldable pub skip : List ℕ → ℕ
+skip [] = 0
+skip (b ∷ bs) = cond (blank b bs) (suc (skip bs)) 0
+
+-- the physical lines that end in a part
+unfoldable pub lineEnds : List ℕ → ℕ
+lineEnds [] = 0
+lineEnds (b ∷ bs) = cond (eqb b 10) (suc (lineEnds bs)) (lineEnds bs)
+
+-- a number of bytes, at most all
+pub record Counted (l : List ℕ) (n r : ℕ) : Type 0 where
+  pub is : r ≡ n
+  pub fits : r ≤ length l

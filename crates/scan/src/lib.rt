@@ -1,0 +1,146 @@
+// The lines of a text and the words of a line, as places in it.
+ghost use mathlib.Core.Path.{_≡_};
+ghost use Prim.Native.Nat.{ℕ, _+_, _≤_, _<_};
+ghost use lib.Dec.{eqb};
+ghost use lib.ListN.{length, drop, getD};
+ghost use Rattle.tree.specs.Same.{sameWords};
+ghost use Rattle.listing.specs.Lines.{lenIn};
+ghost use Rattle.listing.specs.Words.{blank, span, isRefused, isText};
+ghost use Rattle.listing.specs.declared.Mode.the-variants.{Lead};
+ghost use Rattle.scan.specs.Places.{skip, lineEnds, Counted};
+
+// The end of the logical line that begins at from.
+pub fn line_end(text: &[u8], from: usize) -> usize
+    requires { ⌜ from ≤ length (now text) ⌝ }
+    ensures { λ r. ⌜ Counted (now (text .entry)) (from + lenIn Lead (drop from (now (text .entry)))) r ⌝ }
+{
+    let mut m = listing::Mode::Lead;
+    let mut i = from;
+    while i < text.len() {
+        m = listing::step(m, listing::sort_byte(text[i]));
+        i += 1;
+        if listing::ended(m) {
+            return i;
+        }
+    }
+    i
+}
+
+// The LFs of a part, by which the line number grows.
+pub fn line_ends(part: &[u8]) -> usize
+    ensures { λ r. ⌜ Counted (now (part .entry)) (lineEnds (now (part .entry))) r ⌝ }
+{
+    let mut n: usize = 0;
+    let mut i = 0;
+    while i < part.len() {
+        if part[i] == 10 {
+            n += 1;
+        }
+        i += 1;
+    }
+    n
+}
+
+// LF stands at place i.
+fn lf_at(line: &[u8], i: usize) -> bool
+    ensures { λ r. ⌜ r ≡ eqb (getD (now (line .entry)) i 0) 10 ⌝ }
+{
+    if i < line.len() {
+        return line[i] == 10;
+    }
+    false
+}
+
+// The byte at place i parts words.
+pub fn blank_at(line: &[u8], i: usize) -> bool
+    requires { ⌜ i < length (now line) ⌝ }
+    ensures { λ r. ⌜ r ≡ blank (getD (now (line .entry)) i 0) (drop (i + 1) (now (line .entry))) ⌝ }
+{
+    let c = listing::sort_byte(line[i]);
+    match c {
+        listing::Class::Blank => true,
+        listing::Class::LineEnd => true,
+        listing::Class::Escape => lf_at(line, i + 1),
+        listing::Class::Plain => false,
+        listing::Class::Hash => false,
+        listing::Class::Mark => false,
+        listing::Class::Refused => false,
+    }
+}
+
+// The first place from there on that is no blank.
+pub fn skip_blanks(line: &[u8], from: usize) -> usize
+    requires { ⌜ from ≤ length (now line) ⌝ }
+    ensures { λ r. ⌜ Counted (now (line .entry)) (from + skip (drop from (now (line .entry)))) r ⌝ }
+{
+    let mut i = from;
+    while i < line.len() {
+        if blank_at(line, i) {
+            i += 1;
+        } else {
+            return i;
+        }
+    }
+    i
+}
+
+// The end of the word that begins at from.
+pub fn word_end(line: &[u8], from: usize) -> usize
+    requires { ⌜ from ≤ length (now line) ⌝ }
+    ensures { λ r. ⌜ Counted (now (line .entry)) (from + span (drop from (now (line .entry)))) r ⌝ }
+{
+    let mut i = from;
+    while i < line.len() {
+        if blank_at(line, i) {
+            return i;
+        }
+        i += 1;
+    }
+    i
+}
+
+// The class of number 7.
+fn refused(c: listing::Class) -> bool
+    ensures { λ r. ⌜ r ≡ isRefused c ⌝ }
+{
+    match c {
+        listing::Class::Refused => true,
+        listing::Class::Plain => false,
+        listing::Class::Escape => false,
+        listing::Class::Blank => false,
+        listing::Class::LineEnd => false,
+        listing::Class::Hash => false,
+        listing::Class::Mark => false,
+    }
+}
+
+// No byte of a line is due number 7.
+pub fn all_text(line: &[u8]) -> bool
+    ensures { λ r. ⌜ r ≡ isText (now (line .entry)) ⌝ }
+{
+    let mut i = 0;
+    while i < line.len() {
+        if refused(listing::sort_byte(line[i])) {
+            return false;
+        }
+        i += 1;
+    }
+    true
+}
+
+// Two parts are the same bytes.
+pub fn same_bytes(a: &[u8], b: &[u8]) -> bool
+    ensures { λ r. ⌜ r ≡ sameWords (now (a .entry)) (now (b .entry)) ⌝ }
+{
+    if a.len() != b.len() {
+        return false;
+    }
+    let mut i = 0;
+    while i < a.len() {
+        if a[i] != b[i] {
+            return false;
+        }
+        i += 1;
+    }
+    true
+}

@@ -1,0 +1,22 @@
+-- `find_spot` meets its contract: the search from where it starts, at the folder's depth.
+use mathlib.Core.Path.{_∙_}
+use borrow.Author.Needs.{needs}
+use Rattle.row.proofs.Table.{depth-at}
+use Rattle.slot.specs.Insert.{spotOf}
+use Rattle.slot.proofs.find_spot.Statement.{statement}
+use Rattle.slot.proofs.find_spot.Tie as tie
+
+returns : tie.Need-returns
+unfolding spotOf
+returns c = record { answer = c .spot-from .ensures .answer ∙ rw (depth-at, ← c .before .before .start .ensures .0); inside = c .spot-from .ensures .inside }
+
+pub find-spot-spec : {M : Type 1} → statement M
+find-spot-spec =
+    tie.close
+    (tie.spec
+    (λ c κs. search needs)
+    (λ c. search needs)
+    (λ c. search needs)
+    (λ c. search needs)
+    (λ c κs. search needs)
+    returns)

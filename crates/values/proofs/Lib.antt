@@ -1,0 +1,4 @@
+-- Laws of values: keywords, sizes, digests.
+mod Keywords
+mod Sizes
+mod Digests

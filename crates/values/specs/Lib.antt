@@ -1,0 +1,2 @@
+-- What reading a value hands back.
+pub mod Values
