@@ -5,6 +5,7 @@ ghost use mathlib.Core.Path.{_≡_};
 ghost use Prim.Native.Nat.{ℕ, _≤_, _<_};
 ghost use lib.ListN.{length};
 
+// A byte as a word.
 fn wide(x: u8) -> u32
     ensures { λ r. ⌜ r < 256 ⌝ }
 {
@@ -17,6 +18,7 @@ fn digit(b: u8) -> u32 {
     if x < 48 { 0 } else { x - 48 }
 }
 
+// The kind of a byte: d is a folder, f a file, and any other a kind that there is not.
 fn kind_of(b: u8) -> u32 {
     if b == b'd' {
         return 0;

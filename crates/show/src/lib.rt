@@ -5,6 +5,7 @@ ghost use Prim.Native.Nat.{ℕ, _≤_, _<_};
 // What stands in a result before a call.
 pub const CANARY: u32 = 0xC0FFEE11;
 
+// A word as a wider number.
 fn widest(x: u32) -> u64
     ensures { λ r. ⌜ r < 4294967296 ⌝ }
 {
@@ -22,6 +23,7 @@ pub fn sum(words: &[u32]) -> u64 {
     s
 }
 
+// 1 for a word that is as it was before a call, else 0.
 fn one_if_kept(word: u32) -> usize
     ensures { λ r. ⌜ r ≤ 1 ⌝ }
 {
@@ -39,24 +41,29 @@ pub fn kept(words: &[u32]) -> usize {
     n
 }
 
+// The line of a case, and a colon.
 pub fn print_case(case: &[u8]) {
     print(case);
     print(b":");
 }
 
+// Some text.
 pub fn print(text: &[u8]) {
     io::write_all(STDOUT_FILENO, text);
 }
 
+// The low byte of a word.
 fn print_byte(b: u32) {
     let one = [(b % 256) as u8];
     print(&one);
 }
 
+// A row's kind: d or f.
 fn print_kind(kind: u32) {
     if kind == 0 { print(b"d") } else { print(b"f") }
 }
 
+// The first byte of a name, _ where it has none.
 fn print_name(word: u32) {
     if word == 0 {
         print(b"_")

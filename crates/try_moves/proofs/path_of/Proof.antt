@@ -1,10 +1,10 @@
--- `try_tables::path_of` is safe: a path has sixteen slots.
+-- `try_moves::path_of` is safe: a path has sixteen slots.
 use mathlib.Core.Path.{_≡_}
 use lib.ListN.{length}
 use Prim.Native.Nat.{_-_, _≤_}
 use borrow.Author.Needs.{needs}
-use Rattle.try_tables.proofs.path_of.Statement.{statement}
-use Rattle.try_tables.proofs.path_of.Tie as tie
+use Rattle.try_moves.proofs.path_of.Statement.{statement}
+use Rattle.try_moves.proofs.path_of.Tie as tie
 
 abbrev Inv-loop : tie.InvT-loop
 Inv-loop line k names₀ at₀ i₀ names at i = (i ≤ 16) × (length names ≡ 16)

@@ -1,9 +1,9 @@
--- `try_tables::tell_move` is safe: the part is within the result.
+-- `try_moves::tell_move` is safe: the part is within the result.
 use native.Mathlib.Omega.{arith}
 use lib.ListN.{length-take}
 use borrow.Author.Needs.{needs}
-use Rattle.try_tables.proofs.tell_move.Statement.{statement}
-use Rattle.try_tables.proofs.tell_move.Tie as tie
+use Rattle.try_moves.proofs.tell_move.Statement.{statement}
+use Rattle.try_moves.proofs.tell_move.Tie as tie
 
 slice-aggregate-make-move : tie.Need-slice-aggregate-make-move
 slice-aggregate-make-move c = simp length-take (omega arith)
