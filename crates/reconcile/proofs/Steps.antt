@@ -32,8 +32,8 @@ use Rattle.tally.proofs.Laws.{counts-list}
 use Rattle.reconcile.specs.declared.Reconciled.{Reconciled}
 use Rattle.reconcile.specs.declared.Counts.{Counts}
 use Rattle.reconcile.specs.Answer.{answerWith}
-use Rattle.reconcile.specs.Run.{given, Lent, lent, countsOf, tablesDue, roomsDue, runDue, filled, runOf, ReconcileContract}
-use Rattle.reconcile.specs.Steps.{Words, plannedWords, plannedCounts, Spacious, Wrote, roomDue, Settles}
+use Rattle.reconcile.specs.Run.{given, Lent, lent, countsOf, tablesDue, roomsDue, roomDue, runDue, filled, runOf, ReconcileContract}
+use Rattle.reconcile.specs.Steps.{Words, plannedWords, plannedCounts, Spacious, Wrote, Settles}
 use Rattle.reconcile.proofs.Planned.{Sound, outcomeWords, planned-words, planned-counts, items-most, whole-rows, whole-lines}
 
 -- rooms that are accepted

@@ -36,6 +36,7 @@ pub record Lent : Type 0 where
 abbrev pub lent : List ℕ → List ℕ → List ℕ → List ℕ → Tally → Lent
 lent a l r i t = record { archive = a; left = l; right = r; list = i; tally = t }
 
+-- the rows and entries of an outcome; the root has a row
 abbrev pub countsOf : Outcome → Counts
 countsOf u = record { archive = suc (size (u .archive)); left = suc (size (u .left)); right = suc (size (u .right)); list = length (u .lines) }
 
@@ -53,10 +54,13 @@ roomsDue c archive left right list =
     [])
     (unless (leb (c .list) (list / 3)) 3 4)
 
+-- what the rooms of a run are due
+abbrev pub roomDue : List ℕ → List ℕ → List ℕ → Lent → Answer
+roomDue o l r b = roomsDue (countsOf (given o l r)) (length (b .archive)) (length (b .left)) (length (b .right)) (length (b .list))
+
 -- the tables' faults come first
 unfoldable pub runDue : List ℕ → List ℕ → List ℕ → Lent → Answer
-runDue o l r b =
-    firstRefusal (tablesDue o l r ∷ []) (roomsDue (countsOf (given o l r)) (length (b .archive)) (length (b .left)) (length (b .right)) (length (b .list)))
+runDue o l r b = firstRefusal (tablesDue o l r ∷ []) (roomDue o l r b)
 
 -- what an accepted run leaves: each result at the start of its buffer, and the tally of the list
 abbrev pub filled : List ℕ → List ℕ → List ℕ → Lent → Lent
@@ -68,12 +72,13 @@ filled o l r b = record {
   tally = tallyOf (given o l r .lines);
 }
 
-pub record Ran : Type 0 where
+-- what a run answers, and what it leaves
+pub record RunOutcome : Type 0 where
   pub answer : Reconciled
   pub lent : Lent
 
 -- a refusal leaves every buffer and the tally as they were
-unfoldable pub runOf : List ℕ → List ℕ → List ℕ → Lent → Ran
+unfoldable pub runOf : List ℕ → List ℕ → List ℕ → Lent → RunOutcome
 runOf o l r b = record {
   answer = answerWith (runDue o l r b) (countsOf (given o l r));
   lent = cond (isAccepted (runDue o l r b)) (filled o l r b) b;

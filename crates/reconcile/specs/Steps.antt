@@ -5,7 +5,6 @@ use mathlib.Core.Bool.{cond}
 use lib.ListN.{length}
 use Prim.Native.Nat.{ℕ, _/_, _≤_}
 use Rattle.row.specs.Buffer.{over}
-use Rattle.rules.specs.declared.Answer.{Answer}
 use Rattle.rules.specs.Answer.{isAccepted}
 use Rattle.cursor.specs.declared.Decision.{Decision}
 use Rattle.results.specs.declared.Tree.the-variants.{Archive, Left, Right}
@@ -14,7 +13,7 @@ use Rattle.results.specs.Pieces.{newTree, pieceList}
 use Rattle.reconcile.specs.declared.Reconciled.{Reconciled}
 use Rattle.reconcile.specs.declared.Counts.{Counts}
 use Rattle.reconcile.specs.Answer.{answerWith}
-use Rattle.reconcile.specs.Run.{given, Lent, countsOf, roomsDue, filled}
+use Rattle.reconcile.specs.Run.{given, Lent, countsOf, roomDue, filled}
 
 -- the words of the new archive, left and right, and of the list
 pub record Words : Type 0 where
@@ -53,10 +52,6 @@ pub record Wrote (w : Words) (a l r i a′ l′ r′ i′ : List ℕ) : Type 0 w
   pub left : l′ ≡ over l (w .left)
   pub right : r′ ≡ over r (w .right)
   pub list : i′ ≡ over i (w .list)
-
--- what the rooms are due
-abbrev pub roomDue : List ℕ → List ℕ → List ℕ → Lent → Answer
-roomDue o l r b = roomsDue (countsOf (given o l r)) (length (b .archive)) (length (b .left)) (length (b .right)) (length (b .list))
 
 -- what a run of tables that keep the rules answers and leaves
 pub record Settles (o l r : List ℕ) (before after : Lent) (answer : Reconciled) : Type 0 where

@@ -1,16 +1,13 @@
 -- A plan's words read back.
-use mathlib.Core.Path.{_≡_, refl, ap, _∙_}
-use mathlib.Core.List.{List, [], _∷_, _++_}
+use mathlib.Core.Path.{_≡_, refl}
+use mathlib.Core.List.{List, _++_}
 use native.Mathlib.Omega.{arith}
 use native.Mathlib.Nat.{add-zero}
 use lib.ListN.{length, drop, getD, length-drop, List·getD-append}
 use lib.Seq.{getD-drop, drop-append-le}
 use Prim.Native.Nat.{ℕ, zero, suc, _+_, _*_, _≤_}
 use Rattle.row.specs.Buffer.{over}
-use Rattle.cursor.specs.declared.Decision.{Decision}
-use Rattle.cursor.specs.declared.Decision.the-variants.{Agreed, LeftGets, RightGets, Clash}
-use Rattle.plan.specs.Settle.{decisionWords}
-use Rattle.results.specs.Decisions.{numbered, decisionOf, decisions, pieces}
+use Rattle.results.specs.Decisions.{numbered, decisionOf, decisions}
 
 -- item k in the words that the code reads
 pub decision-at : (p : List ℕ) (k : ℕ) → decisionOf (drop (4 * k) p)
@@ -41,16 +38,3 @@ decisions-prefix (suc n) p x h =
 pub decisions-over : (n : ℕ) (d p : List ℕ) → 4 * n ≤ length p → decisions n (over d p) ≡ decisions n p
 unfolding over
 decisions-over n d p h = decisions-prefix n p (drop (length p) d) h
-
--- decisions are read as they are written
-pub decision-words : (n : ℕ) (d : Decision) (p : List ℕ) → decisions (suc n) (decisionWords d ++ p) ≡ d ∷ decisions n p
-unfolding decisions decisionOf decisionWords
-decision-words n (Agreed h) p = refl
-decision-words n (LeftGets h) p = refl
-decision-words n (RightGets h) p = refl
-decision-words n (Clash h) p = refl
-
-pub decisions-words : (ds : List Decision) → decisions (length ds) (pieces decisionWords ds) ≡ ds
-unfolding decisions pieces
-decisions-words [] = refl
-decisions-words (d ∷ ds) = decision-words (length ds) d (pieces decisionWords ds) ∙ ap (λ x. d ∷ x) (decisions-words ds)

@@ -1,11 +1,10 @@
 -- Words written one part after the other.
 use mathlib.Core.Path.{_≡_, refl}
-use mathlib.Core.List.{List, [], _∷_, _++_, append-assoc, append-nil}
-use native.Mathlib.Omega.{arith}
+use mathlib.Core.List.{List, [], _++_, append-assoc}
 use native.Mathlib.Nat.{add-zero}
-use lib.ListN.{length, take, drop, length-append, length-take, length-drop, take-append-drop}
+use lib.ListN.{length, take, drop, length-append, take-append-drop}
 use lib.Seq.{paste, take-length, take-at, drop-append-add, drop-drop}
-use Prim.Native.Nat.{ℕ, _+_, _≤_}
+use Prim.Native.Nat.{ℕ, _+_}
 use Rattle.row.specs.Buffer.{written, over}
 
 -- a copy that is done
@@ -16,10 +15,6 @@ written-paste d s at = rw take-length (append-assoc (take at d) s (drop (at + le
 pub written-nil : (d : List ℕ) (at : ℕ) → written d at [] ≡ d
 unfolding written
 written-nil d at = rw (add-zero, take-append-drop)
-
-pub length-written : (d s : List ℕ) (at : ℕ) → at + length s ≤ length d → length (written d at s) ≡ length d
-unfolding written
-length-written d s at h = simp (length-append, length-take, length-drop) (omega arith)
 
 pub over-nil : (d : List ℕ) → over d [] ≡ d
 unfolding over

@@ -26,10 +26,6 @@ pub first-both : (a last : Answer) → isAccepted (firstRefusal (a ∷ []) last)
 unfolding firstRefusal
 first-both a last h = first-passed a [] last h
 
-pub first-accepted : (a : Answer) (more : List Answer) (last : Answer) → isAccepted a ≡ true → firstRefusal (a ∷ more) last ≡ firstRefusal more last
-unfolding firstRefusal
-first-accepted a more last h = rw h
-
 -- where no check refuses, the answer is the last
 pub first-last : (xs : List Answer) (last : Answer) → isAccepted (firstRefusal xs last) ≡ true → firstRefusal xs last ≡ last
 unfolding firstRefusal
@@ -42,15 +38,9 @@ refusal-fine Fine side h = refl
 refusal-fine BadLength side h = never (cc)
 refusal-fine (BadRow i) side h = never (cc)
 
-pub fine-refusal : (c : Checked) (side : ℕ) → c ≡ Fine → isAccepted (refusalOf c side) ≡ true
-fine-refusal c side h = rw h
-
 pub unless-true : (b : Bool) (number side : ℕ) → isAccepted (unless b number side) ≡ true → b ≡ true
 unless-true true number side h = refl
 unless-true false number side h = never (cc)
-
-pub true-unless : (b : Bool) (number side : ℕ) → b ≡ true → isAccepted (unless b number side) ≡ true
-true-unless b number side h = rw h
 
 pub room-parts : (n lent : ℕ) → roomRule n lent ≡ true → (n ≤ 4096) × (n ≤ lent / 20)
 unfolding roomRule

@@ -2,7 +2,6 @@
 use mathlib.Core.Path.{_≡_, refl, sym, ap, _∙_}
 use mathlib.Core.List.{_++_, append-assoc}
 use native.Mathlib.Omega.{arith}
-use lib.ListN.{take, drop}
 use Prim.Native.Nat.{ℕ, _+_, Ordering, Ordering·lt, Ordering·eq, Ordering·gt}
 use Rattle.tree.specs.Name.{Name, cmp, byOrder, ifSame}
 use Rattle.tree.specs.Forest.{Forest, Forest.end, Forest.leaf, Forest.dir, Node, Node.absent, Node.file, Node.folder, Above, Sorted, add, find, size}
@@ -12,8 +11,6 @@ use Rattle.tree.proofs.Order.{cmp-eq}
 use Rattle.tree.proofs.Forest.{find-above, above-trans}
 use Rattle.stands.specs.Stands.{rowCount}
 use Rattle.stands.specs.Around.{before, behind}
-use Rattle.stands.proofs.Rows.{cut}
-use Rattle.stands.proofs.Forest.{length-rowsOf, length-nodeRows}
 
 rows-add : (d : ℕ) (n : Name) (x : Node) (s : Forest) → rowsOf d (add n x s) ≡ nodeRows d n x ++ rowsOf d s
 unfolding rowsOf nodeRows
@@ -58,11 +55,3 @@ update-find n (dir m k s) h = find-step n m (folder k) s (cmp n m) refl (h .0) (
 
 pub rows-split : (d : ℕ) (n : Name) (f : Forest) → Sorted f → rowsOf d f ≡ rowsOf d (before n f) ++ (nodeRows d n (find n f) ++ rowsOf d (behind n f))
 rows-split d n f h = ap (rowsOf d) (sym (update-find n f h)) ∙ rows-update d n (find n f) f
-
--- the same with the pieces cut from the rows of f: the rows of the entry called n become those of x
-pub rows-put : (d : ℕ) (n : Name) (x : Node) (f : Forest) → Sorted f
-    → rowsOf d (update n x f) ≡ take (size (before n f)) (rowsOf d f) ++ (nodeRows d n x ++ drop (size (before n f) + rowCount (find n f)) (rowsOf d f))
-rows-put d n x f h =
-    let q = cut (rowsOf d f) (rowsOf d (before n f)) (nodeRows d n (find n f)) (rowsOf d (behind n f)) (size (before n f)) (size (before n f) + rowCount (find n f))
-    (rows-split d n f h) (length-rowsOf d (before n f)) (rw (length-rowsOf d (before n f), length-nodeRows d n (find n f))) in
-    rw (q .0, q .1) (rows-update d n x f)

@@ -126,11 +126,3 @@ pub cmp-prefix : (p a b : Name) → cmp (p ++ a) (p ++ b) ≡ cmp a b
 unfolding cmp
 cmp-prefix [] a b = refl
 cmp-prefix (x ∷ p) a b = rw compare-refl (cmp-prefix p a b)
-
-pub cmp-first-lt : (x y : ℕ) (a b : Name) → x < y → cmp (x ∷ a) (y ∷ b) ≡ Ordering·lt
-unfolding cmp
-cmp-first-lt x y a b h = rw (compare-below x y h)
-
-pub cmp-first-gt : (x y : ℕ) (a b : Name) → y < x → cmp (x ∷ a) (y ∷ b) ≡ Ordering·gt
-unfolding cmp
-cmp-first-gt x y a b h = rw (compare-above x y h)

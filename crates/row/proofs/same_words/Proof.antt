@@ -1,41 +1,16 @@
 -- `row::same_words` meets its contract: the words before word k are the same.
-use mathlib.Core.Path.{_≡_, sym, ap, _∙_}
-use mathlib.Core.List.{List}
-use lib.ListN.{length, drop, getD}
-use Prim.Native.Nat.{ℕ, _-_, _≤_}
+use lib.ListN.{length}
+use Prim.Native.Nat.{_-_}
 use borrow.Author.Needs.{needs}
-use Rattle.tree.specs.Same.{sameWords}
-use Rattle.row.proofs.Compare.{same-next, same-differ, same-end}
+use Rattle.row.proofs.Compare.{Alike, alike-lengths, alike-differ, alike-next, alike-end}
 use Rattle.row.proofs.same_words.Statement.{statement}
 use Rattle.row.proofs.same_words.Tie as tie
 
 abbrev Inv-loop : tie.InvT-loop
-Inv-loop a b k₀ k = (k ≤ length a) × (sameWords a b ≡ sameWords (drop k a) (drop k b))
+Inv-loop a b k₀ k = Alike a b k
 
 abbrev μ-loop : tie.MeasureT-loop
 μ-loop a b k₀ k = length a - k
-
-returns : tie.Need-returns Inv-loop μ-loop
-returns c =
-    sym (same-differ (c .before .args .a .now) (c .before .args .b .now) (λ e. c .if1 .taken (ap length e)))
-
-returns-2 : tie.Need-returns-2 Inv-loop μ-loop
-returns-2 c =
-    let l = c .before .before .before .before in
-    let a = l .before .before .args in
-    sym (same-differ (a .a .now) (a .b .now) (λ e. c .if2 .taken (ap (λ (w : List ℕ). getD w (l .loop .k) 0) e)))
-
-loop-again : tie.Need-loop-again Inv-loop μ-loop
-loop-again c =
-    let l = c .before .before .before .before in
-    let a = l .before .before .args in
-    (search needs, l .loop .inv .1 ∙ same-next (a .a .now) (a .b .now) (l .loop .k) (search needs) (search needs) (c .if2 .left))
-
-returns-3 : tie.Need-returns-3 Inv-loop μ-loop
-returns-3 c =
-    let l = c .before in
-    let a = l .before .before .args in
-    sym (l .loop .inv .1 ∙ same-end (a .a .now) (a .b .now) (l .loop .k) (search needs) (search needs))
 
 pub same-words-spec : {M : Type 1} → statement M
 same-words-spec =
@@ -43,14 +18,14 @@ same-words-spec =
     (tie.spec
     Inv-loop
     μ-loop
-    returns
+    (λ c. alike-lengths _ _ (c .if1 .taken))
     (λ c. search needs)
     (λ c. search needs)
     (λ c. search needs)
     (λ c. search needs)
     (λ c. search needs)
-    returns-2
+    (λ c. alike-differ (c .before .before .before .before .loop .inv) (c .if2 .taken))
     (λ c. search needs)
     (λ c. search needs)
-    loop-again
-    returns-3)
+    (λ c. alike-next (c .before .before .before .before .loop .inv) (search needs) (search needs) (c .if2 .left))
+    (λ c. alike-end (c .before .loop .inv) (search needs) (search needs)))
