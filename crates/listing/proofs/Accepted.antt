@@ -9,7 +9,7 @@ use Rattle.tree.specs.Name.{Name}
 use Rattle.tree.specs.Forest.{Forest, TreePath}
 use Rattle.tree.specs.Rules.{NameRule}
 use Rattle.tree.specs.Same.{sameWords}
-use Rattle.listing.specs.Accepted.{AcceptedFits, Fit}
+use Rattle.listing.specs.Accepted.{AcceptedFits, Fit, GoodState, GoodStep, Inside}
 use Rattle.listing.specs.Bytes.{text}
 use Rattle.listing.specs.Lines.{Line, lines}
 use Rattle.listing.specs.Words.{Words, isText, words}
@@ -18,7 +18,7 @@ use Rattle.listing.specs.Entries.{Said.none, Entry, Entry.faulty, Entry.
 use Rattle.listing.specs.Reading.{Outcome, Outcome.accepted, Outcome.refused, State, State.before, State.closed, State.inside, Step, Step.goes, Step.stops, ended, endsInLF, entered, entryLine, inForce, lineDoes, mostRows, onStep, reading, run, wordsDo}
 use Rattle.listing.proofs.Ruled.{name-rule}
 use Rattle.listing.proofs.Entered.{good-placed, one-row}
-use Rattle.listing.proofs.Kept.{GoodEntry, GoodState, GoodStep, Inside, entry-good, good-closing, good-cond, good-root, good-slash}
+use Rattle.listing.proofs.Kept.{GoodEntry, entry-good, good-closing, good-cond, good-root, good-slash}
 
 abbrev GoodOutcome : ℕ → Outcome → Type 0
 GoodOutcome most (refused n line) = Unit {0}
@@ -40,7 +40,7 @@ module _ (most : ℕ) where
       go false e = tt
   good-entry w ws (closed f) h = tt
 
-  good-words : (t : Bool) (ws : Words) (s : State) → GoodState most s → GoodStep most (wordsDo most t ws s)
+  pub good-words : (t : Bool) (ws : Words) (s : State) → GoodState most s → GoodStep most (wordsDo most t ws s)
   unfolding wordsDo
   good-words t [] s h = h
   good-words t (w ∷ ws) s h =

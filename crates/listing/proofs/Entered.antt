@@ -8,22 +8,22 @@ use lib.ListN.{length, length-append}
 use Prim.Native.Nat.{ℕ, suc, _+_, _-_, _<_, _≤_}
 use borrow.Author.Tests.{leb-false, ltb-true}
 use Rattle.tree.specs.Name.{Name}
-use Rattle.tree.specs.Forest.{Forest, Node, Node.absent, Node.file, Node.folder, Sorted, SortedNode, TreePath, at, kids, size}
+use Rattle.tree.specs.Forest.{Present, Forest, Node, Node.absent, Node.file, Node.folder, Sorted, SortedNode, TreePath, at, kids, size}
 use Rattle.tree.specs.Put.{put}
 use Rattle.tree.specs.Rules.{ContentRule, NameRule, Within, WithinNode}
-use Rattle.tree.proofs.Put.{sorted-put}
-use Rattle.listing.specs.Accepted.{Fit}
+use Rattle.tree.proofs.Put.{Open, put-here, sorted-put}
+use Rattle.listing.specs.Accepted.{All, Fit, GoodState, GoodStep, Inside, IsFolder}
 use Rattle.listing.specs.Entries.{Entry.holds, Said}
 use Rattle.listing.specs.Reading.{Step.goes, Step.stops, inForce, isAbsent, opened, placed}
-use Rattle.listing.proofs.Grown.{All, IsFolder, IsThere, Parent, at-put, deeper, folder-above, nodeSize, parent-last, size-put, within-put}
-use Rattle.listing.proofs.Kept.{GoodEntry, GoodState, GoodStep, Inside, all-last}
+use Rattle.listing.proofs.Grown.{deeper, folder-above, nodeSize, parent-last, size-put, within-put}
+use Rattle.listing.proofs.Kept.{GoodEntry, all-last}
 
 -- what an entry holds is one row
 pub record OneRow (x : Node) : Type 0 where
   pub one : nodeSize x ≡ 1
   pub sorted : SortedNode x
   pub within : (d : ℕ) → WithinNode NameRule ContentRule d x
-  pub there : IsThere x
+  pub there : Present x
 
 pub one-row : (x : Node) → GoodEntry (holds x) → OneRow x
 unfolding Sorted Within size
@@ -32,7 +32,7 @@ one-row (file c) h = record { one = refl; sorted = tt; within = λ d. h; there =
 one-row (folder k) h =
     record { one = ap (λ (j : Forest). suc (size j)) h; sorted = rw h tt; within = λ d. rw h tt; there = tt }
 
-folder-put : (p : TreePath) (n : Name) (x : Node) (f : Forest) → folder (kids (put (p ++ (n ∷ [])) x (folder f))) ≡ put (p ++ (n ∷ [])) x (folder f)
+pub folder-put : (p : TreePath) (n : Name) (x : Node) (f : Forest) → folder (kids (put (p ++ (n ∷ [])) x (folder f))) ≡ put (p ++ (n ∷ [])) x (folder f)
 unfolding put
 folder-put [] n x f = refl
 folder-put (m ∷ p) n x f = refl
@@ -56,13 +56,13 @@ module _ (most : ℕ) (n : Name) (x : Node) (f : Forest) (p : TreePath) (ds : Li
   grown : Forest
   grown = kids (put path x (folder f))
 
-  parent : Parent path (folder f)
+  parent : Open path (folder f)
   unfolding path
   parent = parent-last p n (folder f) (h .here)
 
   at-new : at (folder grown) path ≡ x
   unfolding grown path
-  at-new = rw (folder-put p n x f) (at-put path x (folder f) (h .fit .good .sorted) parent)
+  at-new = rw (folder-put p n x f) (put-here path x (folder f) (h .fit .good .sorted) parent)
 
   all-path : All NameRule path
   unfolding path

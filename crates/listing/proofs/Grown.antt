@@ -1,23 +1,20 @@
--- What putting an entry into a tree leaves: its rules, its size, and what stands at the path then.
+-- What putting an entry into a tree leaves: its rules and its size.
 use mathlib.Core.List.{[], _++_, _∷_}
-use mathlib.Core.Path.{_∙_, _≡_, ap, refl}
+use mathlib.Core.Path.{_≡_, ap, refl}
 use native.Mathlib.Omega.{arith}
 use Prim.Native.Nat.{ℕ, suc, _+_, Ordering, Ordering·eq, Ordering·gt, Ordering·lt}
 use Rattle.tree.specs.Name.{Name, byOrder, cmp, ifSame}
-use Rattle.tree.specs.Forest.{Content, Forest, Forest.dir, Forest.end, Forest.leaf, Node, Node.absent, Node.file, Node.folder, Sorted, SortedNode, TreePath, add, at, find, kids, size}
+use Rattle.tree.specs.Forest.{Present, Content, Forest, Forest.dir, Forest.end, Forest.leaf, Node, Node.absent, Node.file, Node.folder, Sorted, SortedNode, TreePath, add, at, find, kids, size}
 use Rattle.tree.specs.Put.{put, update}
 use Rattle.tree.specs.Rules.{Within, WithinNode}
 use Rattle.tree.proofs.Forest.{above-trans, find-above, sorted-find}
-use Rattle.tree.proofs.Put.{find-update-same}
+use Rattle.tree.proofs.Put.{Open}
+use Rattle.listing.specs.Accepted.{All, IsFolder}
 
 -- the depth beneath a path
 abbrev pub deeper : TreePath → ℕ → ℕ
 deeper [] d = d
 deeper (n ∷ p) d = suc (deeper p d)
-
-unfoldable pub All : (Name → Type 0) → TreePath → Type 0
-All P [] = Unit {0}
-All P (n ∷ p) = P n × All P p
 
 module _ (P : Name → Type 0) (Q : Content → Type 0) where
   within-add : (d : ℕ) (n : Name) (x : Node) (s : Forest) → P n → WithinNode P Q d x → Within P Q (suc d) s → Within P Q (suc d) (add n x s)
@@ -96,38 +93,13 @@ size-update n x (dir m k s) h = go (cmp n m) refl (size-update n x s (h .2))
     go Ordering·eq e r = omega (arith, size-add n x s)
     go Ordering·gt e r = omega arith
 
--- every proper part of the path leads to a folder
-abbrev pub Parent : TreePath → Node → Type 0
-Parent [] t = Unit {0}
-Parent (n ∷ p) absent = ⊥
-Parent (n ∷ p) (file c) = ⊥
-Parent (n ∷ p) (folder f) = Parent p (find n f)
-
-pub size-put : (p : TreePath) (x t : Node) → SortedNode t → Parent p t → nodeSize (put p x t) + nodeSize (at t p) ≡ nodeSize t + nodeSize x
-unfolding put at
+pub size-put : (p : TreePath) (x t : Node) → SortedNode t → Open p t → nodeSize (put p x t) + nodeSize (at t p) ≡ nodeSize t + nodeSize x
+unfolding put at Open
 size-put [] x t h q = omega arith
 size-put (n ∷ p) x absent h q = absurd q
 size-put (n ∷ p) x (file c) h q = absurd q
 size-put (n ∷ p) x (folder f) h q =
     omega (arith, size-update n (put p x (find n f)) f h, size-put p x (find n f) (sorted-find n f h) q)
-
-pub at-put : (p : TreePath) (x t : Node) → SortedNode t → Parent p t → at (put p x t) p ≡ x
-unfolding put at
-at-put [] x t h q = refl
-at-put (n ∷ p) x absent h q = absurd q
-at-put (n ∷ p) x (file c) h q = absurd q
-at-put (n ∷ p) x (folder f) h q =
-    ap (λ (y : Node). at y p) (find-update-same n (put p x (find n f)) f h) ∙ at-put p x (find n f) (sorted-find n f h) q
-
-abbrev pub IsFolder : Node → Type 0
-IsFolder absent = ⊥
-IsFolder (file c) = ⊥
-IsFolder (folder k) = Unit {0}
-
-abbrev pub IsThere : Node → Type 0
-IsThere absent = ⊥
-IsThere (file c) = Unit {0}
-IsThere (folder k) = Unit {0}
 
 at-absent : (p : TreePath) → at absent p ≡ absent
 unfolding at find
@@ -135,8 +107,8 @@ at-absent [] = refl
 at-absent (n ∷ p) = at-absent p
 
 -- below no folder there is nothing
-pub parent-last : (p : TreePath) (n : Name) (t : Node) → IsFolder (at t p) → Parent (p ++ (n ∷ [])) t
-unfolding at find
+pub parent-last : (p : TreePath) (n : Name) (t : Node) → IsFolder (at t p) → Open (p ++ (n ∷ [])) t
+unfolding at find Open
 parent-last [] n absent h = h
 parent-last [] n (file c) h = h
 parent-last [] n (folder f) h = tt
@@ -144,7 +116,7 @@ parent-last (m ∷ p) n absent h = rw (at-absent p) at h
 parent-last (m ∷ p) n (file c) h = rw (at-absent p) at h
 parent-last (m ∷ p) n (folder f) h = parent-last p n (find m f) h
 
-pub folder-above : (p : TreePath) (n : Name) (t : Node) → IsThere (at t (p ++ (n ∷ []))) → IsFolder (at t p)
+pub folder-above : (p : TreePath) (n : Name) (t : Node) → Present (at t (p ++ (n ∷ []))) → IsFolder (at t p)
 unfolding at find
 folder-above [] n absent h = h
 folder-above [] n (file c) h = h

@@ -7,38 +7,21 @@ use native.Mathlib.Omega.{arith}
 use lib.Dec.{ltb}
 use lib.ListN.{getD, length, length-set, length-take, take}
 use lib.Seq.{take-length, take-suc}
-use Prim.Native.Nat.{ℕ, suc, zero, _-_, _<_, _≤_}
+use Prim.Native.Nat.{ℕ, suc, zero, _-_, _<_}
 use borrow.Author.Tests.{ltb-true}
 use Rattle.tree.specs.Name.{Name}
-use Rattle.tree.specs.Forest.{Forest, Forest.end, Node, Node.absent, Node.file, Node.folder, Sorted, TreePath, at, size}
+use Rattle.tree.specs.Forest.{Present, Forest, Forest.end, Node, Node.absent, Node.file, Node.folder, Sorted, TreePath, at, size}
 use Rattle.tree.specs.Rules.{ContentRule, NameRule, Within}
 use Rattle.tree.specs.Same.{sameWords}
 use Rattle.tree.proofs.Same.{and-true}
-use Rattle.listing.specs.Accepted.{Fit}
+use Rattle.listing.specs.Accepted.{All, GoodState, GoodStep, Inside, IsFolder}
 use Rattle.listing.specs.Bytes.{text}
 use Rattle.listing.specs.Words.{Words, values}
 use Rattle.listing.specs.Values.{contentOf, digestOf, isDigest, isSize, sizeOf}
 use Rattle.listing.specs.Entries.{Entry, Entry.faulty, Entry.holds, Said, Said.isDir, Said.isFile, Said.isOther, Said.none, Said.twice, entryAs, oneEach, rootAs, typeIn}
 use Rattle.listing.specs.Reading.{State, State.before, State.closed, State.inside, Step, Step.goes, Step.stops, close, closeLine, front, isEmpty, rooted, rootLine, setLine, setTo, slashLine, unsetLine, withDefault}
-use Rattle.listing.proofs.Grown.{All, IsFolder, IsThere, folder-above}
+use Rattle.listing.proofs.Grown.{folder-above}
 use Rattle.listing.proofs.Ruled.{content-rule}
-
--- the open path leads to a folder of a tree that fits, and each open folder has its default
-pub record Inside (most : ℕ) (f : Forest) (p : TreePath) (ds : List Said) : Type 0 where
-  pub fit : Fit most f
-  pub here : IsFolder (at (folder f) p)
-  pub named : All NameRule p
-  pub deep : length p ≤ 16
-  pub each : length ds ≡ suc (length p)
-
-abbrev pub GoodState : ℕ → State → Type 0
-GoodState most (before d) = Unit {0}
-GoodState most (inside f p ds) = Inside most f p ds
-GoodState most (closed f) = Fit most f
-
-abbrev pub GoodStep : ℕ → Step → Type 0
-GoodStep most (stops n) = Unit {0}
-GoodStep most (goes s) = GoodState most s
 
 -- what an entry may hold
 abbrev pub GoodEntry : Entry → Type 0
@@ -121,12 +104,12 @@ unfolding All
 all-last P [] n h q = (q, tt)
 all-last P (m ∷ p) n h q = (h .0, all-last P p n (h .1) q)
 
-there-of : (x : Node) → IsFolder x → IsThere x
+pub there-of : (x : Node) → IsFolder x → Present x
 there-of absent h = h
 there-of (file c) h = tt
 there-of (folder k) h = tt
 
-split-last : (p : TreePath) → 0 < length p → p ≡ front p ++ (getD p (length p - 1) [] ∷ [])
+pub split-last : (p : TreePath) → 0 < length p → p ≡ front p ++ (getD p (length p - 1) [] ∷ [])
 split-last p h =
     let e : suc (length p - 1) ≡ length p = omega arith in
     let lt : length p - 1 < length p = omega arith in
@@ -137,7 +120,7 @@ module _ (most : ℕ) where
   good-close f [] ds h = h .fit
   good-close f (n ∷ p) ds h =
       let q : TreePath = n ∷ p in
-      let there : IsThere (at (folder f) (front q ++ (getD q (length q - 1) [] ∷ []))) = rw (split-last q (omega arith)) at (there-of (at (folder f) q) (h .here)) in
+      let there : Present (at (folder f) (front q ++ (getD q (length q - 1) [] ∷ []))) = rw (split-last q (omega arith)) at (there-of (at (folder f) q) (h .here)) in
       let deep = h .deep in
       let each = h .each in
       let named : All NameRule (front q) = all-take NameRule (length q - 1) q (h .named) in

@@ -21,8 +21,8 @@ use Rattle.tree.proofs.Put.{find-update-same}
 use Rattle.row.proofs.Table.{drop-take}
 use Rattle.stands.proofs.Path.{leads, ruled-at}
 use Rattle.stands.proofs.Put.{put-entry, place-entry, end-entry, at-entry}
-use Rattle.slot.specs.Insert.{inserted, spotOf}
-use Rattle.slot.proofs.Spots.{Last, Last.entry, spotAt, spot-found}
+use Rattle.slot.specs.Insert.{inserted, spotOf, Last, Last.entry}
+use Rattle.slot.proofs.Spots.{spotAt, spot-found}
 
 -- what is in use, what is not, and the length of a table with a row put in
 module _ (w : List ℕ) (n a : ℕ) (r : Row) (h : a ≤ n) (g : n + 20 ≤ length w) (e : length r ≡ 20) where
@@ -95,7 +95,7 @@ module _ (n : Name) (x : Node) (p : Present x) where
   before-step m y s Ordering·eq e h q = before-add n n x s p ∙ rw (cmp-refl n)
   before-step m y s Ordering·gt e h q = before-add n m y (update n x s) h ∙ rw (e, q)
 
-  before-update : (f : Forest) → before n (update n x f) ≡ before n f
+  pub before-update : (f : Forest) → before n (update n x f) ≡ before n f
   unfolding update before
   before-update end = before-add n n x end p ∙ rw (cmp-refl n)
   before-update (leaf m c s) = before-step m (file c) s (cmp n m) refl tt (before-update s)

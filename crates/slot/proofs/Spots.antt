@@ -22,7 +22,7 @@ use Rattle.stands.proofs.Forest.{length-rowsOf, file-name, folder-name}
 use Rattle.stands.proofs.Around.{size-add}
 use Rattle.stands.proofs.Entry.{folder-place, stands-child}
 use Rattle.stands.proofs.Path.{ruled-find}
-use Rattle.slot.specs.Insert.{against, spotIn, searched, spotOf}
+use Rattle.slot.specs.Insert.{against, spotIn, searched, spotOf, Last, Last.none, Last.entry}
 use Rattle.slot.specs.declared.Spot.{Spot}
 use Rattle.slot.specs.declared.Spot.the-variants.{Free, Taken}
 use Rattle.slot.proofs.Search.{against-over, against-entry, against-deep}
@@ -117,11 +117,6 @@ module _ (n a : Name) (d : ℕ) (past : cmp n a ≡ Ordering·gt) where
       rw (append-assoc (rowsOf (suc (suc d)) k) (rowsOf (suc d) s) rs)
       (pass-step m (folder k) s (folderRow (suc d) m) (rowsOf (suc (suc d)) k) (rowsOf (suc d) s ++ rs) (size k) i e refl (length-rowsOf (suc (suc d)) k)
       (spot-deep n d (suc (suc d)) (suc i) k (rowsOf (suc d) s ++ rs) (omega arith)) (cmp a m) refl (h .0) p (λ q. pass (suc i + size k) s rs (r .2) (h .2) q))
-
--- the row of the entry that was put in last: the folder's own, where there is none
-pub data Last (f : ℕ) (k : Forest) : ℕ → Type 0 where
-  none : Last f k f
-  entry : (a : Name) → Present (find a k) → Last f k (f + 1 + size (before a k))
 
 row-name : (w : List ℕ) (i d : ℕ) (a : Name) (x : Node) → Stands w i d a x → Present x → NameRule a → name (rowAt w i) ≡ a
 unfolding nodeRows

@@ -1,13 +1,15 @@
 -- Where an entry goes among the entries of its folder, and the words of a table with its row put in.
 use mathlib.Core.Path.{_≡_}
 use mathlib.Core.List.{List, [], _∷_, _++_}
-use mathlib.Core.Bool.{Bool, true, false, cond, _&&_}
+use mathlib.Core.Bool.{cond}
 use lib.Dec.{ltb, eqb}
 use lib.ListN.{length, take, drop}
 use Prim.Native.Nat.{ℕ, suc, _+_, _*_, _-_, _≤_, Ordering, Ordering·lt, Ordering·gt}
 use Rattle.tree.specs.Name.{Name, cmp, byOrder}
+use Rattle.tree.specs.Forest.{Forest, Present, find, size}
 use Rattle.row.specs.Table.{Row, rowAt, rows, depth, name}
 use Rattle.row.specs.Buffer.{written}
+use Rattle.stands.specs.Around.{before}
 use Rattle.slot.specs.declared.Spot.{Spot}
 use Rattle.slot.specs.declared.Spot.the-variants.{Free, Taken}
 
@@ -31,6 +33,11 @@ searched w f n i = spotIn n (depth (rowAt w f)) i (drop i (rows w))
 -- where the name n goes in the folder at row f
 unfoldable pub spotOf : List ℕ → ℕ → ℕ → Name → Spot
 spotOf w f last n = searched w f n (startOf w f last n)
+
+-- the row of the entry that was put last into the folder k, which stands at row f: the folder's own, where there is none
+pub data Last (f : ℕ) (k : Forest) : ℕ → Type 0 where
+  none : Last f k f
+  entry : (a : Name) → Present (find a k) → Last f k (f + 1 + size (before a k))
 
 -- a row that is free is one of the table's, or the next
 abbrev pub Inside : List ℕ → Spot → Type 0

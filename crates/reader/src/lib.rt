@@ -1,0 +1,169 @@
+// The reader's state: the default type of each open folder, the rows of those folders, the current depth; and a row put
+// into the folder last opened.
+ghost use mathlib.Core.Path.{_≡_};
+ghost use mathlib.Core.Bool.{true};
+ghost use Prim.Native.Nat.{_+_, _-_, _*_, _≤_, _<_};
+ghost use lib.Dec.{ltb};
+ghost use Rattle.tree.specs.Rules.{goodName};
+ghost use Rattle.row.specs.Tree.{fileRow};
+ghost use Rattle.listing.specs.Reading.{mostRows};
+ghost use Rattle.reader.specs.State.{Ready};
+ghost use Rattle.reader.specs.Does.{Fresh, InForce, Sets, Leaves, Roots, IsContent, entered, Places};
+
+// For each open folder its default type (0 none, 1 dir, 2 file) and its row. An entry that is listed now has the depth
+// depth; 0 where no folder is open. The row last put into the folder last opened, or that folder's own; the rows so far.
+pub struct Reader {
+    pub defaults: [u8; 17],
+    pub folders: [usize; 17],
+    pub depth: usize,
+    pub last: usize,
+    pub count: usize,
+}
+
+// The number that a line is due, 0 for none, and the state after it.
+pub struct Went {
+    pub number: u32,
+    pub state: Reader,
+}
+
+// Before the first line.
+pub fn fresh() -> Reader
+    ensures { λ r. ⌜ Fresh r ⌝ }
+{
+    Reader {
+        defaults: [0; 17],
+        folders: [0; 17],
+        depth: 0,
+        last: 0,
+        count: 0,
+    }
+}
+
+// The place of the default in force: before the root is listed it is the root's.
+fn innermost(s: Reader) -> usize
+    requires { ⌜ s .depth ≤ 17 ⌝ }
+    ensures { λ r. ⌜ (r ≡ s .depth - 1) × (r < 17) ⌝ }
+{
+    if s.depth == 0 {
+        return 0;
+    }
+    s.depth - 1
+}
+
+// The default in force.
+pub fn default_of(s: Reader) -> u8
+    requires { ⌜ s .depth ≤ 17 ⌝ }
+    ensures { λ r. ⌜ InForce s r ⌝ }
+{
+    let k = innermost(s);
+    s.defaults[k]
+}
+
+// Another default; after the root has closed none is in force, so none changes.
+pub fn with_default(s: Reader, v: u8) -> Reader
+    requires { ⌜ s .depth ≤ 17 ⌝ }
+    ensures { λ r. ⌜ Sets s v r ⌝ }
+{
+    let k = innermost(s);
+    let mut t = s;
+    t.defaults[k] = v;
+    t
+}
+
+// The folder last opened closed: it is the entry put last into its parent.
+pub fn leave(s: Reader) -> Reader
+    requires { ⌜ (0 < s .depth) × (s .depth ≤ 17) ⌝ }
+    ensures { λ r. ⌜ Leaves s r ⌝ }
+{
+    let k = s.depth - 1;
+    let mut t = s;
+    t.depth = k;
+    t.last = s.folders[k];
+    t
+}
+
+// The root opened.
+pub fn enter_root(s: Reader) -> Reader
+    ensures { λ r. ⌜ Roots s r ⌝ }
+{
+    let mut t = s;
+    t.folders[0] = 0;
+    t.depth = 1;
+    t.last = 0;
+    t.count = 1;
+    t
+}
+
+// The state after a row was put in as row i: a folder is opened, with the default in force.
+fn enter(s: Reader, i: usize, kind: u32) -> Reader
+    requires { ⌜ (s .depth < 17) × (s .count < 4096) ⌝ }
+    ensures { λ r. ⌜ r ≡ entered s i kind ⌝ }
+{
+    let mut t = s;
+    t.last = i;
+    t.count = s.count + 1;
+    if kind == 0 {
+        let k = innermost(s);
+        let d = s.depth;
+        t.defaults[d] = s.defaults[k];
+        t.folders[d] = i;
+        t.depth = d + 1;
+    }
+    t
+}
+
+// A row of that depth, name and content.
+fn row_of(depth: usize, n: [u32; 8], c: [u32; 11]) -> [u32; 20]
+    requires { ⌜ depth < 17 ⌝ }
+    ensures { λ r. ⌜ r ≡ fileRow depth n c ⌝ }
+{
+    let mut r = [0; 20];
+    r[0] = depth as u32;
+    r[1] = c[0];
+    row::copy_words(&n, &mut r, 2);
+    row::copy_words(&c[1..], &mut r, 10);
+    r
+}
+
+// A row more is within the room and the limit.
+fn has_room(count: usize, words: usize) -> bool
+    ensures { λ r. ⌜ r ≡ ltb count (mostRows words) ⌝ }
+{
+    if 4096 <= count {
+        return false;
+    }
+    count < words / 20
+}
+
+// An entry put into the folder last opened: 14, 13, 3.
+pub fn put_row(t: &mut [u32], s: Reader, name: [u32; 8], c: [u32; 11]) -> Went
+    requires { ⌜ Ready (now t) s × (0 < s .depth) × (goodName name ≡ true) × IsContent c ⌝ }
+    ensures { λ r. ⌜ Places name c (now (t .entry)) s (now (t .exit)) r ⌝ }
+{
+    let depth = s.depth;
+    if depth == 17 {
+        return Went {
+            number: 14,
+            state: s,
+        };
+    }
+    let k = depth - 1;
+    let end = 20 * s.count;
+    match slot::find_spot(&t[..end], s.folders[k], s.last, name) {
+        slot::Spot::Taken => Went {
+            number: 13,
+            state: s,
+        },
+        slot::Spot::Free(i) => {
+            if has_room(s.count, t.len()) {
+                slot::insert(t, s.count, i, row_of(depth, name, c));
+                let state = enter(s, i, c[0]);
+                return Went { number: 0, state };
+            }
+            Went {
+                number: 3,
+                state: s,
+            }
+        }
+    }
+}
