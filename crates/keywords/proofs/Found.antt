@@ -1,0 +1,55 @@
+-- A search for a keyword: one more word, and what a count tells of the values.
+use mathlib.Core.Path.{_≡_, refl, sym, ap, _∙_}
+use mathlib.Core.List.{List, [], _∷_}
+use mathlib.Core.Bool.{true, false}
+use native.Mathlib.Omega.{arith}
+use lib.ListN.{length, take, drop, length-take, length-drop, drop-of-length-le}
+use lib.Seq.{drop-drop}
+use Prim.Native.Nat.{ℕ, suc, _+_, _-_, _≤_}
+use Rattle.tree.specs.Same.{sameWords}
+use Rattle.row.proofs.Table.{drop-take}
+use Rattle.listing.specs.Words.{Words, words, wordsFrom, keyLen, values}
+use Rattle.scan.proofs.Next.{Next}
+use Rattle.values.specs.Values.{IsValue}
+use Rattle.keywords.specs.Found.{part, Sought}
+use Rattle.keywords.specs.declared.Part.{Part}
+
+pub words-end : (l : List ℕ) (i : ℕ) → length l ≤ i → words (drop i l) ≡ []
+unfolding wordsFrom
+words-end l i h = rw (drop-of-length-le l h)
+
+part-tail : (l : List ℕ) (a e v : ℕ) → a ≤ e → v ≤ e - a → drop v (part l a e) ≡ part l (a + v) e
+part-tail l a e v h g = let q : e - a ≡ v + (e - (a + v)) = omega arith in rw (q, drop-take v (e - (a + v)) (drop a l), drop-drop)
+
+pub sought-none : (l key : List ℕ) (ws : Words) → ws ≡ [] → Sought l key (values key ws) (record { found = false; start = 0; end = 0 })
+unfolding values
+sought-none l key ws e = record { low = omega arith; high = omega arith; is = rw e }
+
+-- the word from a to e, and whether it has the keyword
+module _ {l : List ℕ} {a e : ℕ} {ws : Words} (n : Next l a e ws (part l a e) (words (drop e l))) where
+  pub value-fits : {v : ℕ} → IsValue (part l a e) v → a + v ≤ e
+  value-fits h = let s = n .some in omega (arith, simp (length-take, length-drop) at (h .fits))
+
+  pub passed : (key : List ℕ) → sameWords (take (keyLen (part l a e)) (part l a e)) key ≡ false → values key ws ≡ values key (words (drop e l))
+  unfolding values
+  passed key t = rw (n .parted, t)
+
+  pub sought-here : {key : List ℕ} {v : ℕ} → sameWords (take (keyLen (part l a e)) (part l a e)) key ≡ true → IsValue (part l a e) v
+      → Sought l key (values key ws) (record { found = true; start = a + v; end = e })
+  unfolding values
+  sought-here {v = v} t h =
+      let s = n .some in
+      let g = value-fits h in
+      record {
+        low = g;
+        high = n .fits;
+        is = rw (n .parted, t, ← part-tail l a e v (omega arith) (omega arith), h .rest);
+      }
+
+-- what is known of the values where a word has the keyword, and where none has
+module _ {l key : List ℕ} {vs : Words} {r : Part} (s : Sought l key vs r) where
+  pub sought-no : r .found ≡ false → vs ≡ []
+  sought-no e = s .is ∙ rw e
+
+  pub sought-yes : r .found ≡ true → vs ≡ part l (r .start) (r .end) ∷ values key (words (drop (r .end) l))
+  sought-yes e = s .is ∙ rw e

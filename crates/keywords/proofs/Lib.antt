@@ -1,0 +1,2 @@
+-- Laws of keywords: Found has one more word of a search, and what a search tells.
+mod Found

@@ -1,0 +1,2 @@
+-- What a line's words say for a keyword.
+pub mod Found
