@@ -7,11 +7,13 @@ use lib.ListN.{length, take, drop, length-take, length-drop, drop-of-length-le}
 use lib.Seq.{drop-drop}
 use Prim.Native.Nat.{ℕ, suc, _+_, _-_, _≤_}
 use Rattle.tree.specs.Same.{sameWords}
+use Rattle.tree.proofs.Never.{never}
 use Rattle.row.proofs.Table.{drop-take}
 use Rattle.listing.specs.Words.{Words, words, wordsFrom, keyLen, values}
 use Rattle.scan.proofs.Next.{Next}
 use Rattle.values.specs.Values.{IsValue}
-use Rattle.keywords.specs.Found.{part, Sought}
+use Rattle.keywords.specs.Found.{part, times, first, Sought, Found}
+use Rattle.keywords.specs.declared.Hit.{Hit}
 use Rattle.keywords.specs.declared.Part.{Part}
 
 pub words-end : (l : List ℕ) (i : ℕ) → length l ≤ i → words (drop i l) ≡ []
@@ -53,3 +55,21 @@ module _ {l key : List ℕ} {vs : Words} {r : Part} (s : Sought l key vs r) wher
 
   pub sought-yes : r .found ≡ true → vs ≡ part l (r .start) (r .end) ∷ values key (words (drop (r .end) l))
   sought-yes e = s .is ∙ rw e
+
+-- what a count tells of the values
+none-said : (vs : Words) → times vs ≡ 0 → vs ≡ []
+none-said [] e = refl
+none-said (v ∷ []) e = never (cc)
+none-said (v ∷ w ∷ vs) e = never (cc)
+
+once-said : (vs : Words) → times vs ≡ 1 → vs ≡ first vs ∷ []
+once-said [] e = never (cc)
+once-said (v ∷ []) e = refl
+once-said (v ∷ w ∷ vs) e = never (cc)
+
+module _ {l : List ℕ} {vs : Words} {r : Hit} (f : Found l vs r) where
+  pub found-none : r .count ≡ 0 → vs ≡ []
+  found-none e = none-said vs (sym (f .count) ∙ e)
+
+  pub found-one : r .count ≡ 1 → vs ≡ part l (r .start) (r .end) ∷ []
+  found-one e = rw (f .value) (once-said vs (sym (f .count) ∙ e))

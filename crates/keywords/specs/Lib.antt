@@ -1,2 +1,3 @@
--- What a line's words say for a keyword.
+-- What a line's words say: Found has a search for a keyword, Entries the line's type and what its entry holds.
 pub mod Found
+pub mod Entries

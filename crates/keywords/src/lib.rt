@@ -4,7 +4,10 @@ ghost use Prim.Native.Nat.{ℕ, _≤_};
 ghost use lib.ListN.{length, drop};
 ghost use Rattle.listing.specs.Words.{words, values};
 ghost use Rattle.listing.specs.Reading.{isEmpty};
+ghost use Rattle.listing.specs.Entries.{Entry.faulty, typeOf, typeIn, oneEach, entryOf, rootAs};
+ghost use Rattle.listing.specs.Bytes.{text};
 ghost use Rattle.keywords.specs.Found.{Sought, Found};
+ghost use Rattle.keywords.specs.Entries.{saidOf, numberOf, IsEntry};
 
 // The place of a keyword's value, and whether there is one.
 pub struct Part {
@@ -18,6 +21,21 @@ pub struct Hit {
     pub count: usize,
     pub start: usize,
     pub end: usize,
+}
+
+// A line's type: not said and no default, dir, file, a value that is neither, or type twice.
+pub enum Said {
+    Unsaid,
+    Dir,
+    File,
+    Other,
+    Twice,
+}
+
+// A fault's number, or 0 and a content: kind, size, digest; all zero for a folder.
+pub struct Held {
+    pub number: u32,
+    pub words: [u32; 11],
 }
 
 // The next word with the keyword: where its value stands.
@@ -102,4 +120,34 @@ pub fn no_more(line: &[u8], from: usize) -> bool
         return true;
     }
     false
+}
+
+// The value of type.
+fn type_of(value: &[u8]) -> Said
+    ensures { λ r. ⌜ saidOf r ≡ typeOf (now (value .entry)) ⌝ }
+{
+    if scan::same_bytes(value, b"dir") {
+        return Said::Dir;
+    }
+    if scan::same_bytes(value, b"file") {
+        return Said::File;
+    }
+    Said::Other
+}
+
+// A line's type, by its words and the default.
+pub fn type_in(line: &[u8], from: usize, default: Said) -> Said
+    requires { ⌜ from ≤ length (now line) ⌝ }
+    ensures { λ r. ⌜ saidOf r ≡ typeIn (saidOf default) (words (drop from (now (line .entry)))) ⌝ }
+{
+    let h = find_key(line, from, b"type");
+    let start = h.start;
+    let end = h.end;
+    if h.count == 0 {
+        return default;
+    }
+    if h.count == 1 {
+        return type_of(&line[start..end]);
+    }
+    Said::Twice
 }
