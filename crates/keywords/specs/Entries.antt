@@ -3,7 +3,7 @@ use mathlib.Core.Path.{_≡_}
 use mathlib.Core.List.{List}
 use lib.ListN.{length, replicate}
 use Prim.Native.Nat.{ℕ}
-use Rattle.tree.specs.Forest.{Node, Node.absent, Node.file, Node.folder}
+use Rattle.tree.specs.Forest.{Node.absent, Node.file, Node.folder}
 use Rattle.listing.specs.Entries.{Said, Said.none, Said.isDir, Said.isFile, Said.isOther, Said.twice, Entry, Entry.faulty, Entry.holds}
 use Rattle.keywords.specs.declared.Said.{Said as SaidCode}
 use Rattle.keywords.specs.declared.Said.the-variants.{Unsaid, Dir, File, Other, Twice}

@@ -1,7 +1,7 @@
 // What the words of a line say for a keyword: how often it is there, its value, the line's type, what its entry holds.
 ghost use mathlib.Core.Path.{_≡_};
 ghost use mathlib.Core.List.{[], _∷_};
-ghost use Prim.Native.Nat.{ℕ, _≤_};
+ghost use Prim.Native.Nat.{_≤_};
 ghost use lib.ListN.{length, drop};
 ghost use Rattle.listing.specs.Words.{words, values};
 ghost use Rattle.listing.specs.Reading.{isEmpty};

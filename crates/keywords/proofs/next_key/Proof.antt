@@ -6,7 +6,7 @@ use Prim.Native.Nat.{_-_, _≤_}
 use borrow.Author.Needs.{needs}
 use Rattle.listing.specs.Words.{words, values}
 use Rattle.scan.proofs.Next.{Next, words-none, words-next}
-use Rattle.keywords.specs.Found.{part, Sought}
+use Rattle.keywords.specs.Found.{part}
 use Rattle.keywords.proofs.Found.{words-end, value-fits, sought-none, passed, sought-here}
 use Rattle.keywords.proofs.next_key.Statement.{statement}
 use Rattle.keywords.proofs.next_key.Tie as tie
