@@ -1,10 +1,8 @@
 // The reader's state: the default type of each open folder, the rows of those folders, the current depth; and a row put
 // into the folder last opened.
 ghost use mathlib.Core.Path.{_≡_};
-ghost use mathlib.Core.Bool.{true};
 ghost use Prim.Native.Nat.{_+_, _-_, _*_, _≤_, _<_};
 ghost use lib.Dec.{ltb};
-ghost use Rattle.tree.specs.Rules.{goodName};
 ghost use Rattle.row.specs.Tree.{fileRow};
 ghost use Rattle.listing.specs.Reading.{mostRows};
 ghost use Rattle.reader.specs.State.{Ready};
@@ -137,7 +135,7 @@ fn has_room(count: usize, words: usize) -> bool
 
 // An entry put into the folder last opened: 14, 13, 3.
 pub fn put_row(t: &mut [u32], s: Reader, name: [u32; 8], c: [u32; 11]) -> Went
-    requires { ⌜ Ready (now t) s × (0 < s .depth) × (goodName name ≡ true) × IsContent c ⌝ }
+    requires { ⌜ Ready (now t) s × (0 < s .depth) × IsContent c ⌝ }
     ensures { λ r. ⌜ Places name c (now (t .entry)) s (now (t .exit)) r ⌝ }
 {
     let depth = s.depth;

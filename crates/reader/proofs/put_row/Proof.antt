@@ -63,7 +63,7 @@ returns-2 c =
     record {
       does = λ f p ds g h.
           did-put (s .args .t .now) (s .args .t2) (s .args .name) (s .args .t4) f p ds g h (c .before .before .before .insert .last .0) (record { number = 0; state = c .enter .result }) (c .before .before .before .before .before .before .before .before .before .before .before .before .before .before .if1 .left) _ (sym (c .before .before .before .before .before .before .before .before .before .i .given .1) ∙ c .before .before .before .before .before .before .before .before .before .before .before .find-spot .ensures .answer)
-          (s .pre .3) (search needs) (sym (c .before .before .before .before .before .before .if2 .taken) ∙ c .before .before .before .before .before .before .before .has-room .ensures) refl (c .enter .ensures)
+          (s .pre .2) (search needs) (sym (c .before .before .before .before .before .before .if2 .taken) ∙ c .before .before .before .before .before .before .before .has-room .ensures) refl (c .enter .ensures)
           (c .before .before .before .insert .ensures ∙ rw (c .before .before .before .before .row-of .ensures));
     }
 

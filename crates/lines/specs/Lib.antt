@@ -1,0 +1,2 @@
+-- What a line does to struct and table.
+pub mod Takes
