@@ -1,0 +1,50 @@
+-- A whole text: its form, then its lines; what is read stays, and a refusal's table is zeroed.
+use mathlib.Core.Path.{_≡_, refl, sym, ap, _∙_}
+use mathlib.Core.List.{List}
+use mathlib.Core.Bool.{true, false, false≢true}
+use lib.ListN.{length, length-replicate}
+use Prim.Native.Nat.{ℕ}
+use Rattle.rules.specs.declared.Answer.{Answer}
+use Rattle.rules.specs.declared.Answer.the-variants.{Accepted, Refused}
+use Rattle.listing.specs.Lines.{lines}
+use Rattle.listing.specs.Entries.{Said.none}
+use Rattle.listing.specs.Reading.{Outcome, Outcome.refused, Outcome.accepted, State.before, mostRows, reading, run}
+use Rattle.reader.specs.State.{zeroed}
+use Rattle.listing_read.specs.Contract.{Answers, RanLines, ReadContract, hasForm, tableAfter}
+
+-- zeros, as many as there are words
+pub zeros-long : (w : List ℕ) (n : ℕ) → w ≡ zeroed n → length w ≡ n
+zeros-long w n e = ap length e ∙ length-replicate {A = ℕ} n 0
+
+pub zeros-all : (w : List ℕ) (n : ℕ) → w ≡ zeroed n → w ≡ zeroed (length w)
+zeros-all w n e = e ∙ rw (zeros-long w n e)
+
+read-by : (t b : List ℕ) (o : Outcome) (a : Answer) (after : List ℕ) → reading t (length b) ≡ o → Answers a o → after ≡ tableAfter o (length b) → ReadContract t b a after
+read-by t b o a after e says table = record { says = rw e says; table = rw e table }
+
+refused-only : (room n s p : ℕ) (o : Outcome) → Answers (Refused n s p) o → tableAfter o room ≡ zeroed room
+refused-only room n s p (refused k line) a = refl
+refused-only room n s p (accepted f) a = absurd (false≢true (a .accepted))
+
+module _ (t b : List ℕ) where
+  pub read-formless : (after : List ℕ) → hasForm t ≡ false → after ≡ zeroed (length b) → ReadContract t b (Refused 6 0 0) after
+  unfolding hasForm reading
+  read-formless after h e =
+      read-by t b (refused 6 0) (Refused 6 0 0) after (rw h) (record { number-due = refl; side-due = refl; place-due = refl; accepted = refl }) e
+
+  -- its lines
+  abbrev ran : ℕ → Outcome
+  ran room = run (mostRows room) (lines t) (before none)
+
+  module _ (form : hasForm t ≡ true) (room : ℕ) (same : room ≡ length b) (a : Answer) (after : List ℕ) (r : RanLines (ran room) room a after) where
+    by-lines : reading t (length b) ≡ ran room
+    unfolding hasForm reading
+    by-lines = rw (form, same)
+
+    pub read-accepted : (p : ℕ) → a ≡ Accepted p → ReadContract t b (Accepted p) after
+    read-accepted p e = read-by t b (ran room) (Accepted p) after by-lines (rw e at (r .says)) (rw (← same) (r .table (rw e)))
+
+    pub read-refused : (n s p : ℕ) (zeros : List ℕ) → a ≡ Refused n s p → zeros ≡ zeroed (length b) → ReadContract t b (Refused n s p) zeros
+    read-refused n s p zeros e z =
+        let q = rw e at (r .says) in
+        read-by t b (ran room) (Refused n s p) zeros by-lines q (z ∙ sym (refused-only (length b) n s p (ran room) q))

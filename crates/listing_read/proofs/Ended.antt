@@ -1,0 +1,68 @@
+-- The end of a text: its form, the answer that is due there, and what the table holds then.
+use mathlib.Core.Path.{_≡_, refl, sym, _∙_}
+use mathlib.Core.List.{List, [], _∷_}
+use mathlib.Core.Bool.{true, false}
+use native.Mathlib.Omega.{arith}
+use lib.Dec.{eqb}
+use lib.ListN.{length, getD, take-append-drop}
+use Prim.Native.Nat.{ℕ, zero, suc, _*_, _-_, _≤_, _<_}
+use borrow.Author.Tests.{le-leb, lt-leb}
+use Rattle.tree.specs.Forest.{Forest}
+use Rattle.tree.specs.Rules.{WellFormed}
+use Rattle.row.specs.Buffer.{over}
+use Rattle.row.specs.Tree.{table}
+use Rattle.row.proofs.Tree.{length-table}
+use Rattle.rules.specs.declared.Answer.the-variants.{Accepted, Refused}
+use Rattle.listing.specs.Reading.{State, State.before, State.inside, State.closed, ended}
+use Rattle.listing.specs.Accepted.{GoodState}
+use Rattle.reader.specs.declared.Reader.{Reader}
+use Rattle.reader.specs.State.{zeroed, Filled, Reads}
+use Rattle.listing_read.specs.Contract.{Answers, Ends, hasForm, tableAfter}
+
+pub form-long : (t : List ℕ) → 65536 < length t → false ≡ hasForm t
+unfolding hasForm
+form-long t h = rw (lt-leb (length t) 65536 h)
+
+pub form-empty : (t : List ℕ) → length t ≡ 0 → true ≡ hasForm t
+unfolding hasForm
+form-empty [] h = refl
+form-empty (b ∷ bs) h = absurd (omega arith)
+
+any-default : (l : List ℕ) (i d e : ℕ) → i < length l → getD l i d ≡ getD l i e
+any-default [] i d e h = absurd (omega arith)
+any-default (x ∷ l) zero d e h = refl
+any-default (x ∷ l) (suc i) d e h = any-default l i d e (omega arith)
+
+pub form-last : (t : List ℕ) → length t ≤ 65536 → (length t ≡ 0 → ⊥) → eqb (getD t (length t - 1) 0) 10 ≡ hasForm t
+unfolding hasForm
+form-last [] h n = absurd (n refl)
+form-last (b ∷ bs) h n = rw (le-leb (length (b ∷ bs)) 65536 h, any-default (b ∷ bs) (length (b ∷ bs) - 1) 0 10 (omega arith))
+
+-- no row means no root
+module _ (s : Reader) where
+  pub ends-rootless : s .count ≡ 0 → Ends s (Refused 12 0 0)
+  ends-rootless e = record { does = λ w t h. go w t h }
+    where
+      go : (w : List ℕ) (t : State) → Reads w s t → Answers (Refused 12 0 0) (ended t)
+      go w (before d) h = record { number-due = refl; side-due = refl; place-due = refl; accepted = refl }
+      go w (inside f p ds) h = let c = h .filled .rows in absurd (omega arith)
+      go w (closed f) h = let c = h .filled .rows in absurd (omega arith)
+
+  pub ends-rooted : (s .count ≡ 0 → ⊥) → Ends s (Accepted (s .count))
+  ends-rooted e = record { does = λ w t h. go w t h }
+    where
+      go : (w : List ℕ) (t : State) → Reads w s t → Answers (Accepted (s .count)) (ended t)
+      go w (before d) h = absurd (e (h .rows))
+      go w (inside f p ds) h = record { number-due = refl; side-due = refl; place-due = h .filled .rows; accepted = refl }
+      go w (closed f) h = record { number-due = refl; side-due = refl; place-due = h .filled .rows; accepted = refl }
+
+filled-table : (w : List ℕ) (count : ℕ) (f : Forest) → WellFormed f → Filled w count f → w ≡ over (zeroed (length w)) (table f)
+unfolding over
+filled-table w count f g h =
+    let l : length (table f) ≡ 20 * count = length-table f g ∙ rw (h .rows) in
+    sym (take-append-drop (20 * count) w) ∙ rw (h .used, h .rest, l)
+
+pub table-end : (most : ℕ) (w : List ℕ) (s : Reader) (t : State) → GoodState most t → Reads w s t → w ≡ tableAfter (ended t) (length w)
+table-end most w s (before d) g h = h .empty
+table-end most w s (inside f p ds) g h = filled-table w (s .count) f (g .fit .good) (h .filled)
+table-end most w s (closed f) g h = filled-table w (s .count) f (g .good) (h .filled)

@@ -1,0 +1,2 @@
+-- What reading a listing promises.
+pub mod Contract
