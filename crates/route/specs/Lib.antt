@@ -1,0 +1,2 @@
+-- The path of a row of a table.
+pub mod Route
