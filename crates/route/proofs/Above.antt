@@ -67,3 +67,13 @@ back-above w d (suc i) = go (ltb (depth (rowAt w (suc i))) d) (back-above w d i)
 -- the path of a row that is not the root
 pub path-next : (w : List ℕ) (i : ℕ) → pathOf w (suc i) ≡ pathOf w (folderOf w (suc i)) ++ (name (rowAt w (suc i)) ∷ [])
 path-next w i = path-first w i ∙ ap (λ p. p ++ (name (rowAt w (suc i)) ∷ [])) (back-above w (depth (rowAt w (suc i))) i)
+
+-- the same of a row that is not row 0, whose folder stands before it
+module _ (w : List ℕ) where
+  pub folder-before : (i : ℕ) → (i ≡ 0 → ⊥) → folderOf w i < i
+  folder-before zero h = absurd (h refl)
+  folder-before (suc i) h = above-less w (depth (rowAt w (suc i))) i
+
+  pub path-on : (i : ℕ) → (i ≡ 0 → ⊥) → pathOf w i ≡ pathOf w (folderOf w i) ++ (name (rowAt w i) ∷ [])
+  path-on zero h = absurd (h refl)
+  path-on (suc i) h = path-next w i

@@ -1,0 +1,5 @@
+-- A reconciliation's list as text: of its lines, and of its words.
+pub mod Text
+pub mod Words
+pub mod Sides
+pub mod Cases
