@@ -5,3 +5,4 @@ pub mod Words
 pub mod Cases
 pub mod Sides
 pub mod Lines
+pub mod Length

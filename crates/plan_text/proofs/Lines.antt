@@ -1,12 +1,14 @@
 -- The words of a list of two trees' lines give the text of the lines.
 use mathlib.Core.Path.{_≡_, refl, ap, _∙_}
-use mathlib.Core.List.{List, [], _∷_, _++_}
+use mathlib.Core.List.{List, [], _∷_}
 use mathlib.Core.Logic.{_⊎_, inl, inr}
 use native.Mathlib.Omega.{arith}
-use lib.ListN.{length}
-use Prim.Native.Nat.{ℕ, suc, _*_, _/_, _≤_, _<_}
-use Rattle.tree.specs.Forest.{TreePath, Node, Node.absent, Node.file, Node.folder, Present, at}
+use lib.ListN.{length, take, drop}
+use lib.Seq.{take-at}
+use Prim.Native.Nat.{ℕ, _*_, _/_, _≤_, _<_}
+use Rattle.tree.specs.Forest.{TreePath, Forest, Node, Node.absent, Node.file, Node.folder, Present, at}
 use Rattle.tree.specs.Rules.{Words32}
+use Rattle.row.specs.Buffer.{over}
 use Rattle.row.specs.Tree.{treeOf}
 use Rattle.rules.specs.declared.Checked.the-variants.{Fine}
 use Rattle.rules.specs.Rules.{checked}
@@ -18,11 +20,23 @@ use Rattle.plan.proofs.Least.{or-present}
 use Rattle.tally.specs.Count.{tallyOf}
 use Rattle.route.specs.Route.{pathOf}
 use Rattle.route.proofs.Path.{row-is, path-of}
-use Rattle.plan_text.specs.Text.{pathText, linesText, countsText, planText}
+use Rattle.plan_text.specs.Text.{pathText, linesText, planText}
 use Rattle.plan_text.specs.Words.{sideText, entryText, entriesText, planBytes}
 use Rattle.plan_text.specs.Sides.{Sided}
 use Rattle.plan_text.proofs.Words.{side-left, side-right}
 use Rattle.plan_text.proofs.Sides.{listed-sided}
+
+-- three words a line
+module _ (l r : Forest) where
+  pub length-list : (xs : Lines) → length (listWords l r xs) ≡ 3 * length xs
+  unfolding wordsOf
+  length-list [] = refl
+  length-list (line p d ∷ xs) = omega (arith, length-list xs)
+
+  -- the list in a buffer that it was written over, as the part that code lends
+  pub list-part : (d : List ℕ) (xs : Lines) → take (3 * length xs) (over d (listWords l r xs)) ≡ listWords l r xs
+  unfolding over
+  list-part d xs = take-at (listWords l r xs) (drop (length (listWords l r xs)) d) (3 * length xs) (length-list xs)
 
 -- the row that a list names for a path, in a table that keeps the rules
 module _ (w : List ℕ) (fine : checked w ≡ Fine) (small : Words32 w) (p : TreePath) where
@@ -68,16 +82,11 @@ module _ (w v : List ℕ) (w-fine : checked w ≡ Fine) (v-fine : checked v ≡ 
   entries-text [] s = refl
   entries-text (line p d ∷ xs) s = rw (side-text p (s .0), entries-text xs (s .1))
 
-  length-list : (xs : Lines) → length (listWords (treeOf w) (treeOf v) xs) ≡ 3 * length xs
-  unfolding wordsOf
-  length-list [] = refl
-  length-list (line p d ∷ xs) = omega (arith, length-list xs)
-
   -- the list of any lines that stand on a side each
   pub plan-text : (xs : Lines) → Sided (treeOf w) (treeOf v) xs → planBytes w v (listWords (treeOf w) (treeOf v) xs) (tallyOf xs) ≡ planText xs
   unfolding planBytes planText
   plan-text xs s =
-      let n : length (listWords (treeOf w) (treeOf v) xs) / 3 ≡ length xs = omega (arith, length-list xs) in
+      let n : length (listWords (treeOf w) (treeOf v) xs) / 3 ≡ length xs = omega (arith, length-list (treeOf w) (treeOf v) xs) in
       rw (n, entries-text xs s)
 
   -- the list of a run

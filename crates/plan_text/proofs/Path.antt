@@ -1,5 +1,5 @@
 -- The text of a path: name by name as it is put, and as document 01 words it.
-use mathlib.Core.Path.{_≡_, refl, sym, ap, _∙_}
+use mathlib.Core.Path.{_≡_, ap}
 use mathlib.Core.List.{List, [], _∷_, _++_, append-assoc, append-nil}
 use Prim.Native.Nat.{ℕ}
 use Rattle.tree.specs.Name.{Name}

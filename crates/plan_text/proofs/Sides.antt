@@ -1,12 +1,12 @@
 -- A reconciliation lists no path at which both sides hold nothing: that is agreed.
 use mathlib.Core.List.{[], _∷_}
 use mathlib.Core.Logic.{_⊎_, inl, inr}
-use mathlib.Core.Path.{_≡_, refl, sym}
+use mathlib.Core.Path.{refl}
 use Rattle.tree.specs.Name.{Name}
 use Rattle.tree.specs.Forest.{TreePath, Forest, Node, Node.absent, Node.file, Node.folder, Present, at, find, kids}
-use Rattle.settle.specs.Decision.{Decision, decide}
+use Rattle.settle.specs.Decision.{Decision}
 use Rattle.settle.specs.Plan.{plan, settle}
-use Rattle.settle.specs.Results.{Line, Line.line, Lines, list, outcome}
+use Rattle.settle.specs.Results.{Line.line, Lines, list, outcome}
 use Rattle.settle.specs.Resume.{In}
 use Rattle.settle.proofs.Induct.{NotBoth, settle-ind}
 use Rattle.settle.proofs.Lines.{linesOf}

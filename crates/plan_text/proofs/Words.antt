@@ -1,5 +1,5 @@
 -- The text of a list's words, as the code comes to it: a side's path, an entry's words, one entry more.
-use mathlib.Core.Path.{_≡_, refl, ap, _∙_}
+use mathlib.Core.Path.{_≡_}
 use mathlib.Core.List.{List, [], _++_}
 use native.Mathlib.Omega.{arith}
 use native.Mathlib.Nat.{add-zero}

@@ -1,6 +1,4 @@
 // A reconciliation's list as text: a line for each entry, and a last one with the counts.
-ghost use mathlib.Core.Path.{_≡_};
-ghost use mathlib.Core.List.{_++_};
 ghost use Prim.Native.Nat.{ℕ, _+_, _*_, _≤_, _<_, _/_, _^_};
 ghost use lib.ListN.{length, drop};
 ghost use Rattle.spell.specs.Puts.{Puts};

@@ -1,8 +1,8 @@
 -- In a tree's table the row of what stands at a path has that path.
-use mathlib.Core.Path.{_≡_, refl, sym, ap, _∙_}
+use mathlib.Core.Path.{_≡_, sym, ap, _∙_}
 use mathlib.Core.List.{List, [], _∷_, _++_, append-assoc, append-nil}
 use native.Mathlib.Omega.{arith}
-use native.Mathlib.Nat.{add-zero, zero-add}
+use native.Mathlib.Nat.{add-zero}
 use native.Mathlib.Numerals.{add-one}
 use lib.ListN.{length, drop}
 use lib.Seq.{drop-at, drop-drop}
@@ -15,13 +15,13 @@ use Rattle.row.specs.Table.{Row, rowAt, rows, depth, name}
 use Rattle.row.specs.Tree.{fileRow, folderRow, rowsOf, nodeRows, rootName, table}
 use Rattle.stands.specs.Stands.{Stands, RuledNode}
 use Rattle.stands.specs.Around.{before, behind, rowIn, nameOn}
-use Rattle.stands.proofs.Rows.{Head, head}
+use Rattle.stands.proofs.Rows.{head}
 use Rattle.stands.proofs.Forest.{length-rowsOf, file-name, folder-name}
 use Rattle.stands.proofs.Around.{rows-split}
 use Rattle.stands.proofs.Entry.{stands-child}
 use Rattle.stands.proofs.Subtree.{stands-whole, holds-table}
 use Rattle.stands.proofs.Path.{ruled-find, at-absent, leads}
-use Rattle.route.specs.Route.{lastAbove, folderOf, pathOf}
+use Rattle.route.specs.Route.{lastAbove, pathOf}
 use Rattle.route.proofs.Above.{above-here, above-back, path-root, path-next}
 
 -- rows at least as deep as d are passed over
@@ -81,6 +81,12 @@ module _ (w : List ℕ) (i d : ℕ) (m n : Name) (k : Forest) (s : Stands w i d 
       let c = rw z at (a .called) in
       rw z (path-next w j ∙ rw (e, c, ← z, folder-above))
 
+-- what has something below it is there
+pub present-above : (p : TreePath) (x : Node) → Present (at x p) → Present x
+present-above p absent h = absurd (rw (at-absent p) at h)
+present-above p (file c) h = tt
+present-above p (folder k) h = tt
+
 -- what stands at a path below a node
 path-below : (p : TreePath) (w : List ℕ) (i d : ℕ) (m : Name) (x : Node) → Stands w i d m x → SortedNode x → RuledNode x → Present (at x p)
     → pathOf w (i + rowIn x p) ≡ pathOf w i ++ p
@@ -91,16 +97,11 @@ path-below (n ∷ p) w i d m (file c) s o r h = absurd (rw (at-absent p) at h)
 path-below (n ∷ p) w i d m (folder k) s o r h =
     let c = i + 1 + size (before n k) in
     let z : i + suc (size (before n k) + rowIn (find n k) p) ≡ c + rowIn (find n k) p = omega arith in
-    let y = present-on p (find n k) h in
+    let y = present-above p (find n k) h in
     let q = ruled-find n k r y in
     rw z
     (path-below p w c (suc d) n (find n k) (stands-child w i d m k s n o) (sorted-find n k o) (q .1) h
     ∙ rw (entry-path w i d m n k s o y (q .0)) (append-assoc (pathOf w i) (n ∷ []) p))
-  where
-    present-on : (p : TreePath) (y : Node) → Present (at y p) → Present y
-    present-on p absent h = absurd (rw (at-absent p) at h)
-    present-on p (file c) h = tt
-    present-on p (folder k) h = tt
 
 module _ (f : Forest) (F : WellFormed f) (p : TreePath) (h : Present (at (folder f) p)) where
   -- the row is one of the table's
