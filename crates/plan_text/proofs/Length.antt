@@ -26,6 +26,7 @@ use Rattle.listing.specs.Bytes.{text}
 use Rattle.listing.specs.Writing.{asItIs, spellByte, spell, nameText, decimal}
 use Rattle.plan_text.specs.Text.{mark, namesText, pathText, marked, lineText, linesText, countsText, planText}
 use Rattle.plan_text.specs.Sides.{Sided}
+use Rattle.plan_text.proofs.Sides.{listed-sided}
 
 spell-length : (bs : List ℕ) → length (spell bs) ≤ 4 * length bs
 unfolding spell spellByte
@@ -121,3 +122,9 @@ list-items (both n k s) = simp (length-append, length-map) (omega (arith, list-i
 pub lines-bound : (o l r : Forest) → Sorted o → Sorted l → Sorted r → length (outcome o l r .lines) ≤ size o + size l + size r
 lines-bound o l r so sl sr =
     omega (arith, list-items (plan o l r), items-bound (size o + size l + size r) o l r so sl sr (omega arith))
+
+-- the text of a run
+pub run-length : (o l r : Forest) → WellFormed o → WellFormed l → WellFormed r
+    → length (planText (outcome o l r .lines)) ≤ 2068 * (size o + size l + size r) + 65
+run-length o l r O L R =
+    omega (arith, text-length l r L R (outcome o l r .lines) (listed-sided o l r), lines-bound o l r (O .sorted) (L .sorted) (R .sorted))
