@@ -1,0 +1,112 @@
+-- Comments and blank lines change nothing but the numbers of the lines after them.
+use mathlib.Core.Path.{_≡_, refl, ap, sym, _∙_}
+use mathlib.Core.List.{List, [], _∷_, _++_}
+use mathlib.Core.Bool.{Bool, true, false, cond, _&&_}
+use native.Mathlib.Omega.{arith}
+use lib.Dec.{eqb, leb}
+use lib.ListN.{length, take, getD, length-append}
+use Prim.Native.Nat.{ℕ, zero, suc, _+_, _≤_, _<_}
+use borrow.Author.Tests.{le-leb, lt-leb}
+use Rattle.tree.proofs.Same.{and-true}
+use Rattle.listing.specs.Bytes.{classOf}
+use Rattle.listing.specs.Lines.{Line, beginOf, lenIn, linesFrom, lines, next}
+use Rattle.listing.specs.Words.{Words, words, isText}
+use Rattle.listing.specs.Entries.{Said.none}
+use Rattle.listing.specs.Reading.{State, State.before, State.inside, State.closed, Step, Step.goes, Step.stops, Outcome, Outcome.refused, Outcome.accepted, wordsDo, lineDoes, ended, onStep, run, endsInLF, mostRows, reading}
+use Rattle.scan.specs.Places.{lineEnds}
+use Rattle.layout.specs.Whole.{whole}
+use Rattle.layout.specs.Comments.{silent, allSilent, later, CommentsChangeNothing}
+use Rattle.layout.proofs.Whole.{lines-append, Upto, numbers-upto, ends-after}
+
+silent-words : (most : ℕ) (good : Bool) (ws : Words) (s : State) → silent ws ≡ true → wordsDo most good ws s ≡ goes s
+unfolding wordsDo
+silent-words most good [] s h = refl
+silent-words most good (w ∷ ws) s h = rw h
+
+-- a comment or a blank line leaves the state as it is
+pub silent-does : (most : ℕ) (l : List ℕ) (s : State) → silent (words l) ≡ true → lineDoes most l s ≡ goes s
+silent-does most l s h = silent-words most (isText l) (words l) s h
+
+next-later : (n d x : ℕ) → next (n + d) x ≡ next n x + d
+next-later n d x = go (eqb x 10)
+  where
+    go : (t : Bool) → cond t (suc (n + d)) (n + d) ≡ cond t (suc n) n + d
+    go true = omega arith
+    go false = refl
+
+next-least : (n x : ℕ) → n ≤ next n x
+next-least n x = go (eqb x 10)
+  where
+    go : (t : Bool) → n ≤ cond t (suc n) n
+    go true = omega arith
+    go false = omega arith
+
+module _ (most : ℕ) where
+  run-silent : (ls rest : List Line) (s : State) → allSilent ls ≡ true → run most (ls ++ rest) s ≡ run most rest s
+  unfolding run allSilent
+  run-silent [] rest s h = refl
+  run-silent (l ∷ ls) rest s h =
+      let q = and-true (silent (words (l .bytes))) (allSilent ls) h in
+      rw (silent-does most (l .bytes) s (q .0)) (run-silent ls rest s (q .1))
+
+  -- the same lines, d later, all of them past k
+  ended-later : (k d : ℕ) (s : State) → ended s ≡ later k d (ended s)
+  ended-later k d (before v) = rw (le-leb 0 k (omega arith))
+  ended-later k d (inside f p ds) = refl
+  ended-later k d (closed f) = refl
+
+  run-later : (k d n j : ℕ) (b : List ℕ) (s : State) → k < n → run most (linesFrom (n + d) j b) s ≡ later k d (run most (linesFrom n j b) s)
+  unfolding run linesFrom
+  run-later k d n j [] s h = ended-later k d s
+  run-later k d n (suc j) (x ∷ b) s h = rw (next-later n d x) (run-later k d (next n x) j b s (omega (arith, next-least n x)))
+  run-later k d n zero (x ∷ b) s h =
+      rw (next-later n d x) (go (lineDoes most (x ∷ take (lenIn (beginOf (classOf x)) b) b) s) (λ t. run-later k d (next n x) (lenIn (beginOf (classOf x)) b) b t (omega (arith, next-least n x))))
+    where
+      go : (e : Step) → ((t : State) → run most (linesFrom (next n x + d) (lenIn (beginOf (classOf x)) b) b) t ≡ later k d (run most (linesFrom (next n x) (lenIn (beginOf (classOf x)) b) b) t))
+          → onStep e (n + d) (λ t. run most (linesFrom (next n x + d) (lenIn (beginOf (classOf x)) b) b) t)
+          ≡ later k d (onStep e n (λ t. run most (linesFrom (next n x) (lenIn (beginOf (classOf x)) b) b) t))
+      go (stops e) ih = rw (lt-leb n k h)
+      go (goes t) ih = ih t
+
+  run-upto : (k d : ℕ) (ls xs ys : List Line) → Upto k ls → ((s : State) → run most xs s ≡ later k d (run most ys s))
+      → (s : State) → run most (ls ++ xs) s ≡ later k d (run most (ls ++ ys) s)
+  unfolding run Upto
+  run-upto k d [] xs ys u h s = h s
+  run-upto k d (l ∷ ls) xs ys u h s = go (lineDoes most (l .bytes) s) (run-upto k d ls xs ys (u .1) h)
+    where
+      go : (x : Step) → ((t : State) → run most (ls ++ xs) t ≡ later k d (run most (ls ++ ys) t))
+          → onStep x (l .number) (λ t. run most (ls ++ xs) t) ≡ later k d (onStep x (l .number) (λ t. run most (ls ++ ys) t))
+      go (stops n) ih = rw (le-leb (l .number) k (u .0))
+      go (goes t) ih = ih t
+
+-- the numbers of lines say nothing of their words
+silent-any : (n m j : ℕ) (c : List ℕ) → allSilent (linesFrom n j c) ≡ allSilent (linesFrom m j c)
+unfolding allSilent linesFrom
+silent-any n m j [] = refl
+silent-any n m (suc j) (x ∷ c) = silent-any (next n x) (next m x) j c
+silent-any n m zero (x ∷ c) =
+    ap (λ (t : Bool). silent (words (x ∷ take (lenIn (beginOf (classOf x)) c) c)) && t) (silent-any (next n x) (next m x) (lenIn (beginOf (classOf x)) c) c)
+
+module _ (most : ℕ) (a c b : List ℕ) (wa : whole a ≡ true) (wc : whole c ≡ true) (sc : allSilent (lines c) ≡ true) where
+  past : (s : State) → run most (linesFrom (1 + lineEnds a) 0 (c ++ b)) s ≡ later (lineEnds a) (lineEnds c) (run most (linesFrom (1 + lineEnds a) 0 b) s)
+  past s =
+      rw (lines-append (1 + lineEnds a) c b wc)
+      (run-silent most (linesFrom (1 + lineEnds a) 0 c) _ s (silent-any (1 + lineEnds a) 1 0 c ∙ sc)
+      ∙ run-later most (lineEnds a) (lineEnds c) (1 + lineEnds a) 0 b s (omega arith))
+
+  runs : (s : State) → run most (lines (a ++ (c ++ b))) s ≡ later (lineEnds a) (lineEnds c) (run most (lines (a ++ b)) s)
+  runs s =
+      rw (lines-append 1 a (c ++ b) wa, lines-append 1 a b wa)
+      (run-upto most (lineEnds a) (lineEnds c) (linesFrom 1 0 a) _ _ (numbers-upto 1 (lineEnds a) a wa (omega arith)) past s)
+
+pub comments-change-nothing : CommentsChangeNothing
+unfolding reading
+comments-change-nothing a c b room wa wc sc long =
+    let short : length (a ++ b) ≤ 65536 = omega (arith, length-append a (c ++ b), length-append c b, length-append a b) in
+    rw (le-leb (length (a ++ (c ++ b))) 65536 long, le-leb (length (a ++ b)) 65536 short, ends-after a c b wa wc)
+    (go _ _ (endsInLF (a ++ b)) (runs (mostRows room) a c b wa wc sc (before none)))
+  where
+    go : (x y : Outcome) (t : Bool) → x ≡ later (lineEnds a) (lineEnds c) y
+        → cond t x (refused 6 0) ≡ later (lineEnds a) (lineEnds c) (cond t y (refused 6 0))
+    go x y true e = e
+    go x y false e = rw (le-leb 0 (lineEnds a) (omega arith))

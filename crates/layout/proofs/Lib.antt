@@ -1,0 +1,3 @@
+-- Theorems on the layout of texts.
+pub mod Whole
+pub mod Comments

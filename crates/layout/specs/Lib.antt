@@ -1,0 +1,3 @@
+-- What a text's layout may be without its tree being another.
+pub mod Whole
+pub mod Comments
