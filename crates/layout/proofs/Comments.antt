@@ -14,9 +14,9 @@ use Rattle.listing.specs.Words.{Words, words, isText}
 use Rattle.listing.specs.Entries.{Said.none}
 use Rattle.listing.specs.Reading.{State, State.before, State.inside, State.closed, Step, Step.goes, Step.stops, Outcome, Outcome.refused, Outcome.accepted, wordsDo, lineDoes, ended, onStep, run, endsInLF, mostRows, reading}
 use Rattle.scan.specs.Places.{lineEnds}
-use Rattle.layout.specs.Whole.{whole}
+use Rattle.layout.specs.Whole.{whole, bytesOf, pieces}
 use Rattle.layout.specs.Comments.{silent, allSilent, later, CommentsChangeNothing}
-use Rattle.layout.proofs.Whole.{lines-append, Upto, numbers-upto, ends-after}
+use Rattle.layout.proofs.Whole.{bytes-any, lines-append, Upto, numbers-upto, ends-after}
 
 silent-words : (most : ℕ) (good : Bool) (ws : Words) (s : State) → silent ws ≡ true → wordsDo most good ws s ≡ goes s
 unfolding wordsDo
@@ -42,11 +42,11 @@ next-least n x = go (eqb x 10)
     go false = omega arith
 
 module _ (most : ℕ) where
-  run-silent : (ls rest : List Line) (s : State) → allSilent ls ≡ true → run most (ls ++ rest) s ≡ run most rest s
+  run-silent : (ls rest : List Line) (s : State) → allSilent (bytesOf ls) ≡ true → run most (ls ++ rest) s ≡ run most rest s
   unfolding run allSilent
   run-silent [] rest s h = refl
   run-silent (l ∷ ls) rest s h =
-      let q = and-true (silent (words (l .bytes))) (allSilent ls) h in
+      let q = and-true (silent (words (l .bytes))) (allSilent (bytesOf ls)) h in
       rw (silent-does most (l .bytes) s (q .0)) (run-silent ls rest s (q .1))
 
   -- the same lines, d later, all of them past k
@@ -79,19 +79,11 @@ module _ (most : ℕ) where
       go (stops n) ih = rw (le-leb (l .number) k (u .0))
       go (goes t) ih = ih t
 
--- the numbers of lines say nothing of their words
-silent-any : (n m j : ℕ) (c : List ℕ) → allSilent (linesFrom n j c) ≡ allSilent (linesFrom m j c)
-unfolding allSilent linesFrom
-silent-any n m j [] = refl
-silent-any n m (suc j) (x ∷ c) = silent-any (next n x) (next m x) j c
-silent-any n m zero (x ∷ c) =
-    ap (λ (t : Bool). silent (words (x ∷ take (lenIn (beginOf (classOf x)) c) c)) && t) (silent-any (next n x) (next m x) (lenIn (beginOf (classOf x)) c) c)
-
-module _ (most : ℕ) (a c b : List ℕ) (wa : whole a ≡ true) (wc : whole c ≡ true) (sc : allSilent (lines c) ≡ true) where
+module _ (most : ℕ) (a c b : List ℕ) (wa : whole a ≡ true) (wc : whole c ≡ true) (sc : allSilent (pieces c) ≡ true) where
   past : (s : State) → run most (linesFrom (1 + lineEnds a) 0 (c ++ b)) s ≡ later (lineEnds a) (lineEnds c) (run most (linesFrom (1 + lineEnds a) 0 b) s)
   past s =
       rw (lines-append (1 + lineEnds a) c b wc)
-      (run-silent most (linesFrom (1 + lineEnds a) 0 c) _ s (silent-any (1 + lineEnds a) 1 0 c ∙ sc)
+      (run-silent most (linesFrom (1 + lineEnds a) 0 c) _ s (ap allSilent (bytes-any (1 + lineEnds a) 1 0 c) ∙ sc)
       ∙ run-later most (lineEnds a) (lineEnds c) (1 + lineEnds a) 0 b s (omega arith))
 
   runs : (s : State) → run most (lines (a ++ (c ++ b))) s ≡ later (lineEnds a) (lineEnds c) (run most (lines (a ++ b)) s)

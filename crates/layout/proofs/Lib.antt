@@ -1,3 +1,10 @@
 -- Theorems on the layout of texts.
 pub mod Whole
 pub mod Comments
+pub mod Sorts
+pub mod Known
+pub mod Good
+pub mod Fill
+pub mod Place
+pub mod Blocks
+pub mod Order

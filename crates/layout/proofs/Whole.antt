@@ -18,7 +18,7 @@ use Rattle.listing.specs.declared.Mode.{Mode}
 use Rattle.listing.specs.declared.Mode.the-variants.{Lead, LeadBack, Body, BodyBack, Comment, Done}
 use Rattle.listing.proofs.Solid.{len-done}
 use Rattle.scan.specs.Places.{lineEnds}
-use Rattle.layout.specs.Whole.{wholeFrom, whole}
+use Rattle.layout.specs.Whole.{wholeFrom, whole, bytesOf, pieces}
 
 is-done : (m : Mode) → isDone m ≡ true → m ≡ Done
 is-done Done e = refl
@@ -74,6 +74,21 @@ lines-from n m (x ∷ a) b h = rw (next-ends n x a) (go (isDone m) h (λ k. line
 
 pub lines-append : (n : ℕ) (a b : List ℕ) → whole a ≡ true → linesFrom n 0 (a ++ b) ≡ linesFrom n 0 a ++ linesFrom (n + lineEnds a) 0 b
 lines-append n a b h = rw (len-done a) at (lines-from n Done a b h)
+
+-- the numbers of lines say nothing of their bytes
+pub bytes-any : (n m j : ℕ) (c : List ℕ) → bytesOf (linesFrom n j c) ≡ bytesOf (linesFrom m j c)
+unfolding linesFrom
+bytes-any n m j [] = refl
+bytes-any n m (suc j) (x ∷ c) = bytes-any (next n x) (next m x) j c
+bytes-any n m zero (x ∷ c) =
+    ap (λ (ls : List (List ℕ)). (x ∷ take (lenIn (beginOf (classOf x)) c) c) ∷ ls) (bytes-any (next n x) (next m x) (lenIn (beginOf (classOf x)) c) c)
+
+bytes-append : (xs ys : List Line) → bytesOf (xs ++ ys) ≡ bytesOf xs ++ bytesOf ys
+bytes-append [] ys = refl
+bytes-append (x ∷ xs) ys = ap (λ (ls : List (List ℕ)). x .bytes ∷ ls) (bytes-append xs ys)
+
+pub pieces-append : (a b : List ℕ) → whole a ≡ true → pieces (a ++ b) ≡ pieces a ++ pieces b
+pieces-append a b h = rw (lines-append 1 a b h, bytes-append (linesFrom 1 0 a) (linesFrom (1 + lineEnds a) 0 b), bytes-any (1 + lineEnds a) 1 0 b)
 
 -- only LF ends a line
 by-end-done : (c : Class) (x y z : Mode) → isDone y ≡ false → isDone z ≡ false → isDone (byEnd c x y z) ≡ true → c ≡ LineEnd

@@ -5,11 +5,10 @@ use mathlib.Core.Bool.{Bool, true, cond, _&&_}
 use lib.Dec.{eqb, leb}
 use lib.ListN.{length, getD}
 use Prim.Native.Nat.{ℕ, _+_, _≤_}
-use Rattle.listing.specs.Lines.{Line, lines}
 use Rattle.listing.specs.Words.{Words, words}
 use Rattle.listing.specs.Reading.{Outcome, Outcome.refused, Outcome.accepted, reading}
 use Rattle.scan.specs.Places.{lineEnds}
-use Rattle.layout.specs.Whole.{whole}
+use Rattle.layout.specs.Whole.{whole, pieces}
 
 -- no word, or a first word that begins with #
 abbrev pub silent : Words → Bool
@@ -17,9 +16,9 @@ silent [] = true
 silent (w ∷ ws) = eqb (getD w 0 0) 35
 
 -- every line is blank or a comment
-unfoldable pub allSilent : List Line → Bool
+unfoldable pub allSilent : List (List ℕ) → Bool
 allSilent [] = true
-allSilent (l ∷ ls) = silent (words (l .bytes)) && allSilent ls
+allSilent (l ∷ ls) = silent (words l) && allSilent ls
 
 -- the same, but for a refusal past physical line k, which comes d physical lines later
 abbrev pub later : ℕ → ℕ → Outcome → Outcome
@@ -29,5 +28,5 @@ later k d (accepted f) = accepted f
 -- whole lines c that are blank or comments, of any bytes, put between whole lines a and any text b
 abbrev pub CommentsChangeNothing : Type 0
 CommentsChangeNothing =
-    (a c b : List ℕ) (room : ℕ) → whole a ≡ true → whole c ≡ true → allSilent (lines c) ≡ true → length (a ++ (c ++ b)) ≤ 65536
+    (a c b : List ℕ) (room : ℕ) → whole a ≡ true → whole c ≡ true → allSilent (pieces c) ≡ true → length (a ++ (c ++ b)) ≤ 65536
     → reading (a ++ (c ++ b)) room ≡ later (lineEnds a) (lineEnds c) (reading (a ++ b) room)

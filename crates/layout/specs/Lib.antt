@@ -1,3 +1,5 @@
 -- What a text's layout may be without its tree being another.
 pub mod Whole
 pub mod Comments
+pub mod Blocks
+pub mod Order
