@@ -1,20 +1,19 @@
 -- A block that is accepted puts one entry into its folder, the same whatever else the folder and the tree hold.
-use mathlib.Core.Path.{_≡_, refl, ap, sym, _∙_}
+use mathlib.Core.Path.{_≡_, refl, sym, _∙_}
 use mathlib.Core.List.{List, [], _∷_, _++_}
 use native.Mathlib.Omega.{arith}
 use lib.ListN.{length, set, length-set}
 use lib.Seq.{set-getD, set-set}
-use Prim.Native.Nat.{ℕ, suc, _+_, _-_, _<_, _≤_}
+use Prim.Native.Nat.{ℕ, suc, _-_, _<_, _≤_}
 use Rattle.tree.specs.Name.{Name}
 use Rattle.tree.specs.Forest.{Content, Forest, Forest.end, Node, Node.absent, Node.file, Node.folder, TreePath, Sorted, SortedNode, at, find, size}
 use Rattle.tree.specs.Put.{update}
 use Rattle.tree.proofs.Never.{never}
 use Rattle.tree.proofs.Put.{sorted-update}
 use Rattle.listing.specs.Entries.{Said, Said.none}
-use Rattle.listing.specs.Reading.{State, State.inside, Step, Step.stops, Step.goes, inForce, lineDoes, placed}
+use Rattle.listing.specs.Reading.{State, State.inside, Step, Step.stops, Step.goes, inForce, lineDoes}
 use Rattle.listing.proofs.Grown.{nodeSize}
-use Rattle.listing.proofs.Kept.{Inside}
-use Rattle.layout.specs.Blocks.{andThen, through, Sets, Enters, Closes, Block, Block.a-file, Block.a-folder, Contents, Contents.none, Contents.sets, Contents.block}
+use Rattle.layout.specs.Blocks.{andThen, through, Sets, Enters, Closes, Block, Block.a-file, Block.a-folder, Contents.none, Contents.sets, Contents.block}
 use Rattle.layout.proofs.Known.{sets-does, closes-does, Entering, enters-does}
 use Rattle.layout.proofs.Good.{good-through}
 use Rattle.layout.proofs.Fill.{fill, has-sorted, fill-has, fill-fill, fill-same, size-fill}

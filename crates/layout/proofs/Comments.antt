@@ -1,10 +1,10 @@
 -- Comments and blank lines change nothing but the numbers of the lines after them.
-use mathlib.Core.Path.{_≡_, refl, ap, sym, _∙_}
+use mathlib.Core.Path.{_≡_, refl, ap, _∙_}
 use mathlib.Core.List.{List, [], _∷_, _++_}
-use mathlib.Core.Bool.{Bool, true, false, cond, _&&_}
+use mathlib.Core.Bool.{Bool, true, false, cond}
 use native.Mathlib.Omega.{arith}
-use lib.Dec.{eqb, leb}
-use lib.ListN.{length, take, getD, length-append}
+use lib.Dec.{eqb}
+use lib.ListN.{length, take, length-append}
 use Prim.Native.Nat.{ℕ, zero, suc, _+_, _≤_, _<_}
 use borrow.Author.Tests.{le-leb, lt-leb}
 use Rattle.tree.proofs.Same.{and-true}
@@ -12,7 +12,7 @@ use Rattle.listing.specs.Bytes.{classOf}
 use Rattle.listing.specs.Lines.{Line, beginOf, lenIn, linesFrom, lines, next}
 use Rattle.listing.specs.Words.{Words, words, isText}
 use Rattle.listing.specs.Entries.{Said.none}
-use Rattle.listing.specs.Reading.{State, State.before, State.inside, State.closed, Step, Step.goes, Step.stops, Outcome, Outcome.refused, Outcome.accepted, wordsDo, lineDoes, ended, onStep, run, endsInLF, mostRows, reading}
+use Rattle.listing.specs.Reading.{State, State.before, State.inside, State.closed, Step, Step.goes, Step.stops, Outcome, Outcome.refused, wordsDo, lineDoes, ended, onStep, run, endsInLF, mostRows, reading}
 use Rattle.scan.specs.Places.{lineEnds}
 use Rattle.layout.specs.Whole.{whole, bytesOf, pieces}
 use Rattle.layout.specs.Comments.{silent, allSilent, later, CommentsChangeNothing}

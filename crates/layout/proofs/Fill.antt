@@ -1,8 +1,8 @@
 -- A folder of a tree that is filled anew: what stands there then, the tree's size, and fillings one after the other.
-use mathlib.Core.Path.{_≡_, refl, ap, sym, _∙_}
+use mathlib.Core.Path.{_≡_, refl, ap, _∙_}
 use mathlib.Core.List.{[], _∷_, _++_}
 use native.Mathlib.Omega.{arith}
-use Prim.Native.Nat.{ℕ, suc, _+_, Ordering, Ordering·lt, Ordering·eq, Ordering·gt}
+use Prim.Native.Nat.{_+_, Ordering, Ordering·lt, Ordering·eq, Ordering·gt}
 use Rattle.tree.specs.Name.{Name, cmp}
 use Rattle.tree.specs.Forest.{Forest, Node, Node.absent, Node.file, Node.folder, TreePath, Sorted, SortedNode, at, find, kids, size}
 use Rattle.tree.specs.Put.{put, update}
@@ -11,7 +11,7 @@ use Rattle.tree.proofs.Order.{cmp-eq}
 use Rattle.tree.proofs.Forest.{Differ, sorted-at, sorted-find}
 use Rattle.tree.proofs.Put.{find-update-same, find-update-other, sorted-update, sorted-put}
 use Rattle.tree.proofs.Value.{find-ext}
-use Rattle.listing.proofs.Grown.{IsFolder, Parent, at-put, nodeSize, parent-last, size-put}
+use Rattle.listing.proofs.Grown.{Parent, at-put, nodeSize, parent-last, size-put}
 
 by-name : {P : Type 0} (n k : Name) → (k ≡ n → P) → (Differ k n → P) → P
 by-name {P} n k same other = go (cmp k n) refl

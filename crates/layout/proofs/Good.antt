@@ -1,16 +1,15 @@
 -- What is known of a state is kept through lines, by the kind of each.
-use mathlib.Core.Path.{_≡_, refl, subst, _∙_}
+use mathlib.Core.Path.{_≡_, subst, _∙_}
 use mathlib.Core.List.{List, [], _∷_}
 use mathlib.Core.Bool.{true}
 use lib.ListN.{length-set}
 use Prim.Native.Nat.{ℕ}
-use Rattle.tree.specs.Forest.{Forest, TreePath}
 use Rattle.listing.specs.Words.{Words}
 use Rattle.listing.specs.Names.{isName, nameOf}
 use Rattle.listing.specs.Entries.{Said, Entry, Entry.faulty, Entry.holds, entryOf, typeIn}
 use Rattle.listing.specs.Reading.{State, State.before, State.inside, State.closed, Step, Step.stops, Step.goes, inForce, withDefault, entered, entryLine, lineDoes}
 use Rattle.listing.proofs.Ruled.{name-rule}
-use Rattle.listing.proofs.Kept.{GoodState, GoodStep, GoodEntry, Inside, entry-good, good-closing, good-root}
+use Rattle.listing.proofs.Kept.{GoodState, GoodStep, GoodEntry, entry-good, good-closing, good-root}
 use Rattle.listing.proofs.Entered.{one-row, good-placed}
 use Rattle.layout.specs.Blocks.{andThen, through}
 use Rattle.layout.proofs.Sorts.{Stops, Kind, Kind.skips, Kind.sets, Kind.closes, Kind.roots, Kind.enters, Kind.fails, kind}

@@ -1,7 +1,6 @@
 -- What a line that was tried does in every open folder.
-use mathlib.Core.Path.{_≡_, refl, ap, sym, _∙_}
-use mathlib.Core.List.{List, [], _∷_, _++_}
-use mathlib.Core.Bool.{Bool, true, false, cond}
+use mathlib.Core.Path.{_≡_, refl, sym, _∙_}
+use mathlib.Core.List.{List, [], _∷_}
 use lib.ListN.{length, set}
 use lib.Seq.{set-getD}
 use Prim.Native.Nat.{ℕ, _-_}
@@ -10,10 +9,9 @@ use Rattle.tree.specs.Forest.{Forest, Forest.end, Node, Node.absent, Node.file,
 use Rattle.tree.specs.Put.{put, update}
 use Rattle.tree.specs.Rules.{NameRule}
 use Rattle.tree.proofs.Never.{never}
-use Rattle.listing.specs.Words.{Words}
 use Rattle.listing.specs.Names.{nameOf}
 use Rattle.listing.specs.Entries.{Said, Said.none, Entry, Entry.faulty, Entry.holds, entryOf, rootAs, typeIn}
-use Rattle.listing.specs.Reading.{State, State.before, State.inside, State.closed, Step, Step.stops, Step.goes, inForce, close, closeLine, rooted, rootLine, opened, placed, entered, entryLine, lineDoes}
+use Rattle.listing.specs.Reading.{State.before, State.inside, State.closed, Step.stops, Step.goes, inForce, close, closeLine, rooted, rootLine, opened, placed, entered, entryLine, lineDoes}
 use Rattle.listing.proofs.Grown.{IsThere}
 use Rattle.listing.proofs.Kept.{GoodEntry, entry-good}
 use Rattle.listing.proofs.Entered.{OneRow, one-row}

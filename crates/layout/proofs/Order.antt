@@ -5,9 +5,8 @@ use mathlib.Core.Bool.{Bool, true, false, cond, _&&_}
 use native.Mathlib.Omega.{arith}
 use lib.Dec.{leb}
 use lib.ListN.{length, length-append}
-use lib.Seq.{set-getD}
-use Prim.Native.Nat.{ℕ, suc, _-_, _≤_, Ordering·eq}
-use Rattle.tree.specs.Name.{Name, cmp}
+use Prim.Native.Nat.{ℕ, suc, _≤_}
+use Rattle.tree.specs.Name.{Name}
 use Rattle.tree.specs.Forest.{Forest, Node, Node.absent, Node.file, Node.folder, TreePath, Sorted, at, find, kids, size}
 use Rattle.tree.specs.Put.{update}
 use Rattle.tree.proofs.Never.{never}
@@ -17,17 +16,17 @@ use Rattle.tree.proofs.Put.{find-update-same, find-update-other, sorted-update}
 use Rattle.tree.proofs.Same.{and-true}
 use Rattle.listing.specs.Lines.{Line, lines}
 use Rattle.listing.specs.Entries.{Said, Said.none}
-use Rattle.listing.specs.Reading.{State, State.before, State.inside, Step, Step.stops, Step.goes, Outcome, Outcome.refused, Outcome.accepted, inForce, lineDoes, ended, onStep, run, endsInLF, mostRows, reading}
+use Rattle.listing.specs.Reading.{State, State.before, State.inside, Step, Step.stops, Step.goes, Outcome.refused, Outcome.accepted, inForce, lineDoes, ended, onStep, run, endsInLF, mostRows, reading}
 use Rattle.listing.proofs.Grown.{IsFolder, nodeSize}
 use Rattle.listing.proofs.Kept.{Inside}
 use Rattle.layout.specs.Whole.{bytesOf, pieces}
 use Rattle.layout.specs.Blocks.{andThen, through, Block}
-use Rattle.layout.specs.Order.{Neighbours, Reordered, Reordered.same, Reordered.swapped, OrderChangesNothing}
+use Rattle.layout.specs.Order.{Neighbours, Reordered.same, Reordered.swapped, OrderChangesNothing}
 use Rattle.layout.proofs.Whole.{pieces-append, ends-after}
 use Rattle.layout.proofs.Good.{good-through}
 use Rattle.layout.proofs.Fill.{fill, has-sorted, fill-fill, update-swap}
 use Rattle.layout.proofs.Place.{In, has}
-use Rattle.layout.proofs.Blocks.{through-append, Both, both, Puts, Fills, fills-none, fills-block, in-put, PutIn, block-in}
+use Rattle.layout.proofs.Blocks.{through-append, both, Puts, Fills, fills-none, fills-block, in-put, PutIn, block-in}
 
 folder-of : (x : Node) → IsFolder x → x ≡ folder (kids x)
 folder-of absent h = absurd h

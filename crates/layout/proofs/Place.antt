@@ -4,17 +4,17 @@ use mathlib.Core.List.{List, [], _∷_, _++_}
 use mathlib.Core.Bool.{Bool, true, false, cond, false≢true}
 use native.Mathlib.Omega.{arith}
 use lib.Dec.{leb, ltb}
-use lib.ListN.{length, getD, set, take, length-append, length-set}
+use lib.ListN.{length, set, length-append, length-set}
 use lib.Seq.{take-at, getD-at, getD-set-same, set-at}
-use Prim.Native.Nat.{ℕ, suc, _+_, _-_, _<_, _≤_}
+use Prim.Native.Nat.{ℕ, suc, _+_, _-_, _<_}
 use borrow.Author.Tests.{lt-leb, lt-ltb, leb-false, ltb-true}
 use Rattle.tree.specs.Name.{Name}
-use Rattle.tree.specs.Forest.{Forest, Forest.end, Node, Node.absent, Node.file, Node.folder, TreePath, Sorted, SortedNode, at, find, kids, size}
+use Rattle.tree.specs.Forest.{Forest, Forest.end, Node, Node.absent, Node.file, Node.folder, TreePath, Sorted, at, find, kids, size}
 use Rattle.tree.specs.Put.{put, update}
 use Rattle.tree.proofs.Never.{never}
 use Rattle.tree.proofs.Put.{find-update-same, sorted-update}
 use Rattle.listing.specs.Entries.{Said, Said.none}
-use Rattle.listing.specs.Reading.{State, State.inside, Step, Step.stops, Step.goes, inForce, front, close, isAbsent, opened, placed}
+use Rattle.listing.specs.Reading.{State, State.inside, Step.stops, Step.goes, inForce, front, close, isAbsent, opened, placed}
 use Rattle.listing.proofs.Grown.{nodeSize, size-put}
 use Rattle.listing.proofs.Kept.{GoodStep, Inside}
 use Rattle.listing.proofs.Entered.{good-placed}
