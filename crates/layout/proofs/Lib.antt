@@ -1,6 +1,8 @@
 -- Theorems on the layout of texts.
 pub mod Whole
 pub mod Comments
+pub mod Runs
+pub mod Said
 pub mod Sorts
 pub mod Known
 pub mod Good
@@ -8,3 +10,4 @@ pub mod Fill
 pub mod Place
 pub mod Blocks
 pub mod Order
+pub mod Relaid

@@ -24,6 +24,7 @@ use Rattle.layout.specs.Blocks.{andThen, through, Block}
 use Rattle.layout.specs.Order.{Neighbours, Reordered.same, Reordered.swapped, OrderChangesNothing}
 use Rattle.layout.proofs.Whole.{pieces-append, ends-after}
 use Rattle.layout.proofs.Good.{good-through}
+use Rattle.layout.proofs.Runs.{run-goes, run-back, passed}
 use Rattle.layout.proofs.Fill.{fill, has-sorted, fill-fill, update-swap}
 use Rattle.layout.proofs.Place.{In, has}
 use Rattle.layout.proofs.Blocks.{through-append, both, Puts, Fills, fills-none, fills-block, in-put, PutIn, block-in}
@@ -95,42 +96,6 @@ swap-lines most ls xs ys bs f p ds leads X Y s e =
       swap-blocks i X Y (b .between) (b .first),
     ) (b .second)
 
--- a run that accepts, and what its lines lead to
-run-goes : (most : ℕ) (ls : List Line) (s t : State) → through most (bytesOf ls) s ≡ goes t → run most ls s ≡ ended t
-unfolding run through
-run-goes most [] s t e = let j : s ≡ t = cc in ap ended j
-run-goes most (l ∷ ls) s t e = go (lineDoes most (l .bytes) s) e (run-goes most ls)
-  where
-    go : (r : Step) → andThen r (λ u. through most (bytesOf ls) u) ≡ goes t → ((u v : State) → through most (bytesOf ls) u ≡ goes v → run most ls u ≡ ended v)
-        → onStep r (l .number) (λ u. run most ls u) ≡ ended t
-    go (stops n) q ih = never (cc)
-    go (goes u) q ih = ih u t q
-
-run-back : (most : ℕ) (ls : List Line) (s : State) (f : Forest) → run most ls s ≡ accepted f → (t : State) × (through most (bytesOf ls) s ≡ goes t) × (ended t ≡ accepted f)
-unfolding run through
-run-back most [] s f e = (s, refl, e)
-run-back most (l ∷ ls) s f e = go (lineDoes most (l .bytes) s) e (run-back most ls)
-  where
-    go : (r : Step) → onStep r (l .number) (λ u. run most ls u) ≡ accepted f
-        → ((u : State) (g : Forest) → run most ls u ≡ accepted g → (t : State) × (through most (bytesOf ls) u ≡ goes t) × (ended t ≡ accepted g))
-        → (t : State) × (andThen r (λ u. through most (bytesOf ls) u) ≡ goes t) × (ended t ≡ accepted f)
-    go (stops n) q ih = never (cc)
-    go (goes u) q ih = ih u f q
-
--- a text that is accepted is short enough, ends in LF, and its run accepts
-record Passed (t : List ℕ) (room : ℕ) (f : Forest) : Type 0 where
-  short : leb (length t) 65536 ≡ true
-  ends : endsInLF t ≡ true
-  runs : run (mostRows room) (lines t) (before none) ≡ accepted f
-
-passed : (t : List ℕ) (room : ℕ) (f : Forest) → reading t room ≡ accepted f → Passed t room f
-unfolding reading
-passed t room f e = go (leb (length t) 65536 && endsInLF t) refl e
-  where
-    go : (b : Bool) → leb (length t) 65536 && endsInLF t ≡ b → cond b (run (mostRows room) (lines t) (before none)) (refused 6 0) ≡ accepted f → Passed t room f
-    go true q h = let w = and-true (leb (length t) 65536) (endsInLF t) q in record { short = w .0; ends = w .1; runs = h }
-    go false q h = never (cc)
-
 module _ (most : ℕ) (a x y b : List ℕ) (N : Neighbours most a x y) where
   pieces-before : pieces (a ++ (x ++ (y ++ b))) ≡ pieces a ++ (pieces x ++ (pieces y ++ pieces b))
   pieces-before =
@@ -176,7 +141,7 @@ swap-text a x y b room f N e =
     let swap = swap-lines most (pieces a) (pieces x) (pieces y) (pieces b) (N .tree) (N .path) (N .defaults) (N .open-there) (N .block-x) (N .block-y) (R .0)
     (rw (pieces-before most a x y b N) at (R .1)) in
     let goes-on : through most (pieces (a ++ (y ++ (x ++ b)))) (before none) ≡ goes (R .0) = rw (pieces-before most a y x b (turned N)) swap in
-    rw (ends-swapped most a x y b N, length-swapped most a x y b N, P .short, P .ends) (run-goes most (lines (a ++ (y ++ (x ++ b)))) (before none) (R .0) goes-on ∙ R .2)
+    rw (ends-swapped most a x y b N, length-swapped most a x y b N, P .fair) (run-goes most (lines (a ++ (y ++ (x ++ b)))) (before none) (R .0) goes-on ∙ R .2)
 
 pub order-changes-nothing : OrderChangesNothing
 order-changes-nothing t u room f same e = e

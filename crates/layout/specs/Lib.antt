@@ -1,5 +1,7 @@
 -- What a text's layout may be without its tree being another.
 pub mod Whole
 pub mod Comments
+pub mod Said
 pub mod Blocks
 pub mod Order
+pub mod Relaid

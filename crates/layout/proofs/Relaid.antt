@@ -1,0 +1,22 @@
+-- Two texts of one tree, whatever their layout, are read as the same tree.
+use mathlib.Core.Path.{_≡_, subst}
+use mathlib.Core.List.{List}
+use Prim.Native.Nat.{ℕ}
+use Rattle.tree.specs.Forest.{Forest}
+use Rattle.listing.specs.Reading.{Outcome, Outcome.refused, Outcome.accepted, reading}
+use Rattle.layout.specs.Said.{Alike}
+use Rattle.layout.specs.Relaid.{Relaid.as-is, Relaid.respaced, Relaid.reordered, LayoutChangesNothing}
+use Rattle.layout.proofs.Runs.{passed}
+use Rattle.layout.proofs.Said.{words-decide}
+use Rattle.layout.proofs.Order.{order-changes-nothing}
+
+alike-accepted : (f : Forest) (y : Outcome) → Alike (accepted f) y → y ≡ accepted f
+alike-accepted f (refused n i) h = absurd h
+alike-accepted f (accepted g) h = cc
+
+pub layout-changes-nothing : LayoutChangesNothing
+layout-changes-nothing t u room f as-is e = e
+layout-changes-nothing t u room f (respaced {u = v} fv same r) e =
+    layout-changes-nothing v u room f r
+    (alike-accepted f (reading v room) (subst (λ (x : Outcome). Alike x (reading v room)) e (words-decide t v room (passed t room f e .fair) fv same)))
+layout-changes-nothing t u room f (reordered {u = v} o r) e = layout-changes-nothing v u room f r (order-changes-nothing t v room f o e)

@@ -1,0 +1,19 @@
+-- Two texts of one tree, whatever their layout, are read as the same tree.
+use mathlib.Core.Path.{_≡_}
+use mathlib.Core.List.{List}
+use mathlib.Core.Bool.{true}
+use Prim.Native.Nat.{ℕ}
+use Rattle.tree.specs.Forest.{Forest}
+use Rattle.listing.specs.Reading.{Outcome.accepted, mostRows, reading}
+use Rattle.layout.specs.Said.{said, fair}
+use Rattle.layout.specs.Order.{Reordered}
+
+-- the same words otherwise laid out, or a folder's entries in another order, any number of times
+pub data Relaid (most : ℕ) : List ℕ → List ℕ → Type 0 where
+  as-is : {t : List ℕ} → Relaid most t t
+  respaced : {t u v : List ℕ} → fair u ≡ true → said t ≡ said u → Relaid most u v → Relaid most t v
+  reordered : {t u v : List ℕ} → Reordered most t u → Relaid most u v → Relaid most t v
+
+abbrev pub LayoutChangesNothing : Type 0
+LayoutChangesNothing =
+    (t u : List ℕ) (room : ℕ) (f : Forest) → Relaid (mostRows room) t u → reading t room ≡ accepted f → reading u room ≡ accepted f
