@@ -11,12 +11,12 @@ use Rattle.tree.specs.Rules.{NameRule}
 use Rattle.tree.proofs.Never.{never}
 use Rattle.listing.specs.Names.{nameOf}
 use Rattle.listing.specs.Entries.{Said, Said.none, Entry, Entry.faulty, Entry.holds, entryOf, rootAs, typeIn}
-use Rattle.listing.specs.Reading.{State.before, State.inside, State.closed, Step.stops, Step.goes, inForce, close, closeLine, rooted, rootLine, opened, placed, entered, entryLine, lineDoes}
+use Rattle.listing.specs.Reading.{State, State.before, State.inside, State.closed, Step.stops, Step.goes, inForce, close, closeLine, rooted, rootLine, opened, placed, entered, entryLine, lineDoes}
 use Rattle.listing.proofs.Grown.{IsThere}
 use Rattle.listing.proofs.Kept.{GoodEntry, entry-good}
 use Rattle.listing.proofs.Entered.{OneRow, one-row}
 use Rattle.listing.proofs.Ruled.{name-rule}
-use Rattle.layout.specs.Blocks.{Sets, Enters, Closes}
+use Rattle.layout.specs.Blocks.{Sets, Enters, Closes, Known, Known.setting, Known.entry, Known.closing, EveryLineKnown}
 use Rattle.layout.proofs.Sorts.{Stops, stops-never, Kind, Kind.skips, Kind.sets, Kind.closes, Kind.roots, Kind.enters, Kind.fails, kind}
 
 no-room : (d : Said) (x : Entry) → Stops (rooted 0 d x)
@@ -117,3 +117,20 @@ module _ (d : Said) (n : Name) (x : Node) (l : List ℕ) (there : IsThere x) (h 
 
 pub enters-does : {d : Said} {n : Name} (x : Node) (l : List ℕ) → IsThere x → Enters d n x l → Entering d n x l
 enters-does {d} {n} x l there h = enters-by d n x l there h (kind l)
+
+known-by : (most : ℕ) (l : List ℕ) (f : Forest) (p : TreePath) (ds : List Said) (s : State) → lineDoes most l (inside f p ds) ≡ goes s
+    → Kind (λ m t. lineDoes m l t) → Known (inForce ds) l
+unfolding closeLine rootLine entryLine
+known-by most l f p ds s h (skips k) = setting (inForce ds) (k 0 (before (inForce ds)))
+known-by most l f p ds s h (sets v k) = setting v (k 0 (before (inForce ds)))
+known-by most l f p ds s h (closes k) = closing (k 0 (inside end [] []))
+known-by most l f p ds s h (roots ws k) = let q = k most (inside f p ds) in never (cc)
+known-by most l f p ds s h (fails k) = stops-never _ (k most (inside f p ds)) h
+known-by most l f p ds s h (enters w ws t k) = go (entryOf (inForce ds) ws) refl (rw t at (sym (k most (inside f p ds)) ∙ h))
+  where
+    go : (y : Entry) → entryOf (inForce ds) ws ≡ y → entered most (nameOf w) y f p ds ≡ goes s → Known (inForce ds) l
+    go (faulty m) e q = never (cc)
+    go (holds y) e q = entry (nameOf w) y (k 2 (inside end [] (inForce ds ∷ [])) ∙ rw (t, e) (first-placed (nameOf w) y (inForce ds)))
+
+pub every-line-known : EveryLineKnown
+every-line-known most l f p ds s h = known-by most l f p ds s h (kind l)

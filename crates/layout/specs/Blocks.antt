@@ -3,9 +3,9 @@ use mathlib.Core.Path.{_≡_}
 use mathlib.Core.List.{List, [], _∷_, _++_}
 use Prim.Native.Nat.{ℕ}
 use Rattle.tree.specs.Name.{Name}
-use Rattle.tree.specs.Forest.{Content, Forest.end, Node, Node.file, Node.folder, add}
+use Rattle.tree.specs.Forest.{Content, Forest, Forest.end, TreePath, Node, Node.file, Node.folder, add}
 use Rattle.listing.specs.Entries.{Said}
-use Rattle.listing.specs.Reading.{State, State.before, State.inside, State.closed, Step, Step.stops, Step.goes, lineDoes, opened}
+use Rattle.listing.specs.Reading.{State, State.before, State.inside, State.closed, Step, Step.stops, Step.goes, inForce, lineDoes, opened}
 
 -- a fault is the last step
 abbrev pub andThen : Step → (State → Step) → Step
@@ -41,3 +41,14 @@ mutual
     none : {d : Said} → Contents d []
     sets : {d e : Said} {l : List ℕ} {ls : List (List ℕ)} → Sets d e l → Contents e ls → Contents d (l ∷ ls)
     block : {d : Said} (bs ls : List (List ℕ)) → Block d bs → Contents d ls → Contents d (bs ++ ls)
+
+-- what a line that goes on in an open folder is, where d is the default
+pub data Known (d : Said) (l : List ℕ) : Type 0 where
+  setting : (e : Said) → Sets d e l → Known d l
+  entry : (n : Name) (x : Node) → Enters d n x l → Known d l
+  closing : Closes l → Known d l
+
+-- so that no line is left out
+abbrev pub EveryLineKnown : Type 0
+EveryLineKnown =
+    (most : ℕ) (l : List ℕ) (f : Forest) (p : TreePath) (ds : List Said) (s : State) → lineDoes most l (inside f p ds) ≡ goes s → Known (inForce ds) l
