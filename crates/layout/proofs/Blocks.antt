@@ -111,7 +111,7 @@ module _ {most : ℕ} {p : TreePath} {d : Said} where
             );
       }
 
-  pub in-put : {k f : Forest} {ds : List Said} {ls : List (List ℕ)} (n : Name) (x : Node) → Puts most p d n x ls → (i : In most p d k f ds) → find n k ≡ absent
+  in-put : {k f : Forest} {ds : List Said} {ls : List (List ℕ)} (n : Name) (x : Node) → Puts most p d n x ls → (i : In most p d k f ds) → find n k ≡ absent
       → suc (size (fill p (update n x k) f)) ≤ most → In most p d (update n x k) (fill p (update n x k) f) ds
   in-put {k} {f} {ds} {ls} n x P i free room =
       record {
@@ -205,22 +205,34 @@ sets-in {d} {v} l ls h ih most p k f ds s i e =
     let F = ih most p k f (set ds (length ds - 1) v) s (in-default v i) (rw (sets-does l h most f p ds (i .force)) at e) in
     record { default = F .default; entries = F .entries; fills = fills-sets l ls h (F .fills); room = F .room }
 
-more-in : {d : Said} (bs ls : List (List ℕ)) → BlockIn d bs → ContentsIn d ls → ContentsIn d (bs ++ ls)
-more-in bs ls ib ic most p k f ds s i e =
+-- a block, and the lines after it
+pub record Begun (most : ℕ) (p : TreePath) (d : Said) (k f : Forest) (ds : List Said) (bs ls : List (List ℕ)) (s : State) : Type 0 where
+  pub put : PutIn most p d k f bs
+  pub next : In most p d (update (put .name) (put .node) k) (fill p (update (put .name) (put .node) k) f) ds
+  pub rest : through most ls (inside (fill p (update (put .name) (put .node) k) f) p ds) ≡ goes s
+
+pub begun : {d : Said} (bs ls : List (List ℕ)) → BlockIn d bs → (most : ℕ) (p : TreePath) (k f : Forest) (ds : List Said) (s : State) → In most p d k f ds
+    → through most (bs ++ ls) (inside f p ds) ≡ goes s → Begun most p d k f ds bs ls s
+begun bs ls ib most p k f ds s i e =
     let b = both _ _ s (rw (through-append most bs ls (inside f p ds)) at e) in
     let P = ib most p k f ds (b .between) i (b .first) in
-    let n = P .name in
-    let x = P .node in
-    let g = fill p (update n x k) f in
     let does = P .puts .does k f ds i (P .free) (P .room) in
     let first = b .first in
-    let at-once : b .between ≡ inside g p ds = cc in
-    let F = ic most p (update n x k) g ds s (in-put n x (P .puts) i (P .free) (P .room)) (rw at-once at (b .second)) in
+    let at-once : b .between ≡ inside (fill p (update (P .name) (P .node) k) f) p ds = cc in
+    record { put = P; next = in-put (P .name) (P .node) (P .puts) i (P .free) (P .room); rest = rw at-once at (b .second) }
+
+more-in : {d : Said} (bs ls : List (List ℕ)) → BlockIn d bs → ContentsIn d ls → ContentsIn d (bs ++ ls)
+more-in bs ls ib ic most p k f ds s i e =
+    let b = begun bs ls ib most p k f ds s i e in
+    let P = b .put in
+    let n = P .name in
+    let x = P .node in
+    let F = ic most p (update n x k) (fill p (update n x k) f) ds s (b .next) (b .rest) in
     let sk = has-sorted (has i) in
     record {
       default = F .default;
       entries = F .entries;
-      fills = fills-block n x bs ls sk (P .puts) (P .free) (F .fills);
+      fills = fills-block {e = F .default} {k = k} {j = F .entries} n x bs ls sk (P .puts) (P .free) (F .fills);
       room = rw (fill-fill (has i) (update n x k) (F .entries) (sorted-update n x (P .puts .sorted) k sk) (F .fills .sorted)) at (F .room);
     }
 

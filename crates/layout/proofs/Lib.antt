@@ -11,3 +11,4 @@ pub mod Place
 pub mod Blocks
 pub mod Order
 pub mod Relaid
+pub mod Examples

@@ -1,33 +1,29 @@
 -- The order in which a folder's entries are listed changes nothing.
 use mathlib.Core.Path.{_≡_, refl, ap, sym, _∙_}
-use mathlib.Core.List.{List, [], _∷_, _++_, append-assoc, append-nil}
-use mathlib.Core.Bool.{Bool, true, false, cond, _&&_}
+use mathlib.Core.List.{List, [], _++_, append-assoc, append-nil}
 use native.Mathlib.Omega.{arith}
-use lib.Dec.{leb}
 use lib.ListN.{length, length-append}
 use Prim.Native.Nat.{ℕ, suc, _≤_}
 use Rattle.tree.specs.Name.{Name}
 use Rattle.tree.specs.Forest.{Forest, Node, Node.absent, Node.file, Node.folder, TreePath, Sorted, at, find, kids, size}
 use Rattle.tree.specs.Put.{update}
-use Rattle.tree.proofs.Never.{never}
 use Rattle.tree.proofs.Order.{flip, cmp-eq, cmp-flip}
 use Rattle.tree.proofs.Forest.{Differ}
 use Rattle.tree.proofs.Put.{find-update-same, find-update-other, sorted-update}
-use Rattle.tree.proofs.Same.{and-true}
-use Rattle.listing.specs.Lines.{Line, lines}
+use Rattle.listing.specs.Lines.{lines}
 use Rattle.listing.specs.Entries.{Said, Said.none}
-use Rattle.listing.specs.Reading.{State, State.before, State.inside, Step, Step.stops, Step.goes, Outcome.refused, Outcome.accepted, inForce, lineDoes, ended, onStep, run, endsInLF, mostRows, reading}
+use Rattle.listing.specs.Reading.{State, State.before, State.inside, Step.goes, Outcome.accepted, inForce, endsInLF, mostRows, reading}
 use Rattle.listing.proofs.Grown.{IsFolder, nodeSize}
 use Rattle.listing.proofs.Kept.{Inside}
-use Rattle.layout.specs.Whole.{bytesOf, pieces}
-use Rattle.layout.specs.Blocks.{andThen, through, Block}
+use Rattle.layout.specs.Whole.{pieces}
+use Rattle.layout.specs.Blocks.{through, Block}
 use Rattle.layout.specs.Order.{Neighbours, Reordered.same, Reordered.swapped, OrderChangesNothing}
 use Rattle.layout.proofs.Whole.{pieces-append, ends-after}
 use Rattle.layout.proofs.Good.{good-through}
 use Rattle.layout.proofs.Runs.{run-goes, run-back, passed}
 use Rattle.layout.proofs.Fill.{fill, has-sorted, fill-fill, update-swap}
 use Rattle.layout.proofs.Place.{In, has}
-use Rattle.layout.proofs.Blocks.{through-append, both, Puts, Fills, fills-none, fills-block, in-put, PutIn, block-in}
+use Rattle.layout.proofs.Blocks.{through-append, both, Puts, Fills, fills-none, fills-block, PutIn, begun, block-in}
 
 folder-of : (x : Node) → IsFolder x → x ≡ folder (kids x)
 folder-of absent h = absurd h
@@ -66,15 +62,8 @@ module _ {most : ℕ} {p : TreePath} {k f : Forest} {ds : List Said} (i : In mos
   swap-blocks : Block (inForce ds) xs → Block (inForce ds) ys → (s : State) → through most (xs ++ ys) (inside f p ds) ≡ goes s
       → through most (ys ++ xs) (inside f p ds) ≡ goes s
   swap-blocks X Y s e =
-      let b = both _ _ s (rw (through-append most xs ys (inside f p ds)) at e) in
-      let A = block-in X most p k f ds (b .between) i (b .first) in
-      let g = fill p (update (A .name) (A .node) k) f in
-      let does = A .puts .does k f ds i (A .free) (A .room) in
-      let first = b .first in
-      let at-once : b .between ≡ inside g p ds = cc in
-      let j = in-put (A .name) (A .node) (A .puts) i (A .free) (A .room) in
-      let B = block-in Y most p (update (A .name) (A .node) k) g ds s j (rw at-once at (b .second)) in
-      let r = swap-in A B in
+      let b = begun xs ys (block-in X) most p k f ds s i e in
+      let r = swap-in (b .put) (block-in Y most p _ _ ds s (b .next) (b .rest)) in
       let one = r .1 in
       let other = r .2 in
       cc

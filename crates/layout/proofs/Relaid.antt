@@ -1,7 +1,5 @@
 -- Two texts of one tree, whatever their layout, are read as the same tree.
 use mathlib.Core.Path.{_≡_, subst}
-use mathlib.Core.List.{List}
-use Prim.Native.Nat.{ℕ}
 use Rattle.tree.specs.Forest.{Forest}
 use Rattle.listing.specs.Reading.{Outcome, Outcome.refused, Outcome.accepted, reading}
 use Rattle.layout.specs.Said.{Alike}

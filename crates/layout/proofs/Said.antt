@@ -5,15 +5,15 @@ use mathlib.Core.Bool.{Bool, true, false, cond, _&&_, false≢true}
 use lib.ListN.{take, drop, take-append-drop}
 use Prim.Native.Nat.{ℕ, zero, suc}
 use Rattle.listing.specs.Bytes.{classOf}
-use Rattle.listing.specs.Lines.{Line, lines}
+use Rattle.listing.specs.Lines.{lines}
 use Rattle.listing.specs.Words.{Words, words, wordsFrom, span, blank, parts, isRefused, isText}
 use Rattle.listing.specs.declared.Class.{Class}
 use Rattle.listing.specs.declared.Class.the-variants.{Plain, Escape, Blank, LineEnd, Hash, Mark, Refused}
 use Rattle.listing.specs.Entries.{Said.none}
-use Rattle.listing.specs.Reading.{State, State.before, State.inside, State.closed, Step, Step.stops, Step.goes, Outcome, ended, wordsDo, lineDoes, run, mostRows, reading}
-use Rattle.layout.specs.Whole.{bytesOf, pieces}
+use Rattle.listing.specs.Reading.{State, State.before, State.inside, State.closed, Step, Step.stops, Step.goes, ended, wordsDo, lineDoes, mostRows, reading}
+use Rattle.layout.specs.Whole.{pieces}
 use Rattle.layout.specs.Comments.{silent}
-use Rattle.layout.specs.Said.{saidBy, said, fair, Alike, WordsDecide}
+use Rattle.layout.specs.Said.{saidBy, Alike, WordsDecide}
 use Rattle.layout.specs.Blocks.{andThen, through}
 use Rattle.layout.proofs.Comments.{silent-does}
 use Rattle.layout.proofs.Runs.{verdict, run-verdict}

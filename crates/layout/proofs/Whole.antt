@@ -192,7 +192,7 @@ last-append a b h =
     let e : length (a ++ b) - 1 ≡ length a + (length b - 1) = omega (arith, length-append a b) in
     rw (e, getD-append-add a b (length b - 1) 10)
 
--- what stands before a text that is whole or empty, or before any other, leaves its end
+-- whole lines c between whole lines and any text leave the last byte what it was, LF or not
 pub ends-after : (a c b : List ℕ) → whole a ≡ true → whole c ≡ true → endsInLF (a ++ (c ++ b)) ≡ endsInLF (a ++ b)
 ends-after a c [] h q =
     rw (append-nil c, append-nil a, ends-from Done (a ++ c) (whole-append a c h q), ends-from Done a h)

@@ -5,3 +5,4 @@ pub mod Said
 pub mod Blocks
 pub mod Order
 pub mod Relaid
+pub mod Examples
