@@ -6,11 +6,12 @@ use lib.ListN.{length, length-replicate}
 use Prim.Native.Nat.{ℕ}
 use Rattle.rules.specs.declared.Answer.{Answer}
 use Rattle.rules.specs.declared.Answer.the-variants.{Accepted, Refused}
+use Rattle.rules.specs.Answer.{isAccepted}
 use Rattle.listing.specs.Lines.{lines}
 use Rattle.listing.specs.Entries.{Said.none}
 use Rattle.listing.specs.Reading.{Outcome, Outcome.refused, Outcome.accepted, State.before, mostRows, reading, run}
 use Rattle.reader.specs.State.{zeroed}
-use Rattle.listing_read.specs.Contract.{Answers, RanLines, ReadContract, hasForm, tableAfter}
+use Rattle.listing_read.specs.Contract.{Answers, RanLines, ReadContract, hasForm, isTaken, tableAfter}
 
 -- zeros, as many as there are words
 pub zeros-long : (w : List ℕ) (n : ℕ) → w ≡ zeroed n → length w ≡ n
@@ -19,18 +20,18 @@ zeros-long w n e = ap length e ∙ length-replicate {A = ℕ} n 0
 pub zeros-all : (w : List ℕ) (n : ℕ) → w ≡ zeroed n → w ≡ zeroed (length w)
 zeros-all w n e = e ∙ rw (zeros-long w n e)
 
-read-by : (t b : List ℕ) (o : Outcome) (a : Answer) (after : List ℕ) → reading t (length b) ≡ o → Answers a o → after ≡ tableAfter o (length b) → ReadContract t b a after
-read-by t b o a after e says table = record { says = rw e says; table = rw e table }
+read-by : (t b : List ℕ) (o : Outcome) (a : Answer) (after : List ℕ) → reading t (length b) ≡ o → Answers a o → isAccepted a ≡ isTaken o → after ≡ tableAfter o (length b) → ReadContract t b a after
+read-by t b o a after e says kind table = record { says = rw e says; kind = rw e kind; table = rw e table }
 
-refused-only : (room n s p : ℕ) (o : Outcome) → Answers (Refused n s p) o → tableAfter o room ≡ zeroed room
-refused-only room n s p (refused k line) a = refl
-refused-only room n s p (accepted f) a = absurd (false≢true (a .accepted))
+refused-only : (room : ℕ) (o : Outcome) → false ≡ isTaken o → tableAfter o room ≡ zeroed room
+refused-only room (refused k line) e = refl
+refused-only room (accepted f) e = absurd (false≢true e)
 
 module _ (t b : List ℕ) where
   pub read-formless : (after : List ℕ) → hasForm t ≡ false → after ≡ zeroed (length b) → ReadContract t b (Refused 6 0 0) after
   unfolding hasForm reading
   read-formless after h e =
-      read-by t b (refused 6 0) (Refused 6 0 0) after (rw h) (record { number-due = refl; side-due = refl; place-due = refl; accepted = refl }) e
+      read-by t b (refused 6 0) (Refused 6 0 0) after (rw h) (record { number-due = refl; side-due = refl; place-due = refl; accepted = refl }) refl e
 
   -- its lines
   abbrev ran : ℕ → Outcome
@@ -42,9 +43,9 @@ module _ (t b : List ℕ) where
     by-lines = rw (form, same)
 
     pub read-accepted : (p : ℕ) → a ≡ Accepted p → ReadContract t b (Accepted p) after
-    read-accepted p e = read-by t b (ran room) (Accepted p) after by-lines (rw e at (r .says)) (rw (← same) (r .table (rw e)))
+    read-accepted p e = read-by t b (ran room) (Accepted p) after by-lines (rw e at (r .says)) (rw e at (r .kind)) (rw (← same) (r .table (rw e)))
 
     pub read-refused : (n s p : ℕ) (zeros : List ℕ) → a ≡ Refused n s p → zeros ≡ zeroed (length b) → ReadContract t b (Refused n s p) zeros
     read-refused n s p zeros e z =
-        let q = rw e at (r .says) in
-        read-by t b (ran room) (Refused n s p) zeros by-lines q (z ∙ sym (refused-only (length b) n s p (ran room) q))
+        let q = rw e at (r .kind) in
+        read-by t b (ran room) (Refused n s p) zeros by-lines (rw e at (r .says)) q (z ∙ sym (refused-only (length b) (ran room) q))

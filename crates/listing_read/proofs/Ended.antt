@@ -17,7 +17,7 @@ use Rattle.listing.specs.Reading.{State, State.before, State.inside, State.clos
 use Rattle.listing.specs.Accepted.{GoodState}
 use Rattle.reader.specs.declared.Reader.{Reader}
 use Rattle.reader.specs.State.{zeroed, Filled, Reads}
-use Rattle.listing_read.specs.Contract.{Answers, Ends, hasForm, tableAfter}
+use Rattle.listing_read.specs.Contract.{Answers, Ends, hasForm, isTaken, tableAfter}
 
 pub form-long : (t : List ℕ) → 65536 < length t → false ≡ hasForm t
 unfolding hasForm
@@ -43,18 +43,18 @@ module _ (s : Reader) where
   pub ends-rootless : s .count ≡ 0 → Ends s (Refused 12 0 0)
   ends-rootless e = record { does = λ w t h. go w t h }
     where
-      go : (w : List ℕ) (t : State) → Reads w s t → Answers (Refused 12 0 0) (ended t)
-      go w (before d) h = record { number-due = refl; side-due = refl; place-due = refl; accepted = refl }
+      go : (w : List ℕ) (t : State) → Reads w s t → Answers (Refused 12 0 0) (ended t) × (false ≡ isTaken (ended t))
+      go w (before d) h = (record { number-due = refl; side-due = refl; place-due = refl; accepted = refl }, refl)
       go w (inside f p ds) h = let c = h .filled .rows in absurd (omega arith)
       go w (closed f) h = let c = h .filled .rows in absurd (omega arith)
 
   pub ends-rooted : (s .count ≡ 0 → ⊥) → Ends s (Accepted (s .count))
   ends-rooted e = record { does = λ w t h. go w t h }
     where
-      go : (w : List ℕ) (t : State) → Reads w s t → Answers (Accepted (s .count)) (ended t)
+      go : (w : List ℕ) (t : State) → Reads w s t → Answers (Accepted (s .count)) (ended t) × (true ≡ isTaken (ended t))
       go w (before d) h = absurd (e (h .rows))
-      go w (inside f p ds) h = record { number-due = refl; side-due = refl; place-due = h .filled .rows; accepted = refl }
-      go w (closed f) h = record { number-due = refl; side-due = refl; place-due = h .filled .rows; accepted = refl }
+      go w (inside f p ds) h = (record { number-due = refl; side-due = refl; place-due = h .filled .rows; accepted = refl }, refl)
+      go w (closed f) h = (record { number-due = refl; side-due = refl; place-due = h .filled .rows; accepted = refl }, refl)
 
 filled-table : (w : List ℕ) (count : ℕ) (f : Forest) → WellFormed f → Filled w count f → w ≡ over (zeroed (length w)) (table f)
 unfolding over

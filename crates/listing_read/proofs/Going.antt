@@ -82,4 +82,4 @@ module _ {text : List ℕ} {room : ℕ} {w : List ℕ} {s : Reader} {i line : �
 -- a refused line's answer
 pub refused-lines : {o : Outcome} {room n line : ℕ} {after : List ℕ} → o ≡ refused n line → (n ≡ 0 → ⊥) → RanLines o room (Refused n 0 line) after
 refused-lines {n = n} e h =
-    rw e (record { says = record { number-due = refl; side-due = refl; place-due = refl; accepted = sym (ne-eqb n 0 h) }; table = λ z. absurd (false≢true z) })
+    rw e (record { says = record { number-due = refl; side-due = refl; place-due = refl; accepted = sym (ne-eqb n 0 h) }; kind = refl; table = λ z. absurd (false≢true z) })

@@ -1,7 +1,7 @@
 -- What reading a listing promises: the answer, and what the lent table holds afterwards, whatever the text and the room.
 use mathlib.Core.Path.{_≡_}
 use mathlib.Core.List.{List}
-use mathlib.Core.Bool.{Bool, true, _&&_}
+use mathlib.Core.Bool.{Bool, true, false, _&&_}
 use lib.Dec.{leb}
 use lib.ListN.{length}
 use Prim.Native.Nat.{ℕ}
@@ -17,6 +17,11 @@ use Rattle.reader.specs.State.{zeroed, Reads}
 abbrev pub Answers : Answer → Outcome → Type 0
 Answers a o = Says a (answerOf o .number) (answerOf o .side) (answerOf o .place)
 
+-- a tree was accepted
+abbrev pub isTaken : Outcome → Bool
+isTaken (refused n line) = false
+isTaken (accepted f) = true
+
 -- all zero after a refusal; after a success the tree's table, and zeros past it
 abbrev pub tableAfter : Outcome → ℕ → List ℕ
 tableAfter (refused n line) room = zeroed room
@@ -25,6 +30,7 @@ tableAfter (accepted f) room = over (zeroed room) (table f)
 -- the words lent, before, and after
 pub record ReadContract (t before : List ℕ) (answer : Answer) (after : List ℕ) : Type 0 where
   pub says : Answers answer (reading t (length before))
+  pub kind : isAccepted answer ≡ isTaken (reading t (length before))
   pub table : after ≡ tableAfter (reading t (length before)) (length before)
 
 -- not too long, and LF at its end unless it is empty
@@ -34,8 +40,9 @@ hasForm t = leb (length t) 65536 && endsInLF t
 -- the lines of a text read into a table of zeros, which a refusal leaves as it comes
 pub record RanLines (o : Outcome) (room : ℕ) (answer : Answer) (after : List ℕ) : Type 0 where
   pub says : Answers answer o
+  pub kind : isAccepted answer ≡ isTaken o
   pub table : isAccepted answer ≡ true → after ≡ tableAfter o room
 
 -- what is due at the end of a text, whatever state the struct stands for
 pub record Ends (s : Reader) (answer : Answer) : Type 0 where
-  pub does : (w : List ℕ) (t : State) → Reads w s t → Answers answer (ended t)
+  pub does : (w : List ℕ) (t : State) → Reads w s t → Answers answer (ended t) × (isAccepted answer ≡ isTaken (ended t))

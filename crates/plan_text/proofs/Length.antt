@@ -121,7 +121,7 @@ list-items (both n k s) = simp (length-append, length-map) (omega (arith, list-i
 
 pub lines-bound : (o l r : Forest) → Sorted o → Sorted l → Sorted r → length (outcome o l r .lines) ≤ size o + size l + size r
 lines-bound o l r so sl sr =
-    omega (arith, list-items (plan o l r), items-bound (size o + size l + size r) o l r so sl sr (omega arith))
+    omega (arith, list-items (plan o l r), items-bound o l r so sl sr)
 
 -- the text of a run
 pub run-length : (o l r : Forest) → WellFormed o → WellFormed l → WellFormed r

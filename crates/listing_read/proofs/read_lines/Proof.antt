@@ -83,7 +83,8 @@ returns-2 c =
     let v = c .before .before .loop in
     let g = v .inv .2 in
     let q = going-end g (let h = c .before .loop-test .left in omega arith) in
-    rw q (record { says = c .answer-at-end .ensures .does _ (g .state) (g .reads); table = λ z. rw (← g .long) (table-end _ _ _ (g .state) (g .good) (g .reads)) })
+    let a = c .answer-at-end .ensures .does _ (g .state) (g .reads) in
+    rw q (record { says = a .0; kind = a .1; table = λ z. rw (← g .long) (table-end _ _ _ (g .state) (g .good) (g .reads)) })
 
 pub read-lines-spec : {M : Type 1} → statement M
 read-lines-spec =

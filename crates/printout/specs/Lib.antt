@@ -1,0 +1,3 @@
+-- What syncplan prints for three texts.
+pub mod Printed
+pub mod Tables
