@@ -1,0 +1,30 @@
+-- Each exported call has one outcome: eight words and buffers that keep its contract are those of any other outcome that does.
+use mathlib.Core.Path.{_≡_, sym, _∙_}
+use mathlib.Core.List.{List}
+use Prim.Native.Nat.{ℕ}
+use Rattle.tree.specs.Name.{Name}
+use Rattle.reconcile.specs.Run.{Lent}
+use Rattle.kantifero.specs.Calls.{ReconcileCall, MoveCall, WriteCall}
+use Rattle.kantifero.specs.Carried.{CarriedCall}
+
+pub reconcile-one : (o l r : List ℕ) (before : Lent) (a b c d t w a′ b′ c′ d′ t′ w′ : List ℕ) → ReconcileCall o l r before a b c d t w → ReconcileCall o l r before a′ b′ c′ d′ t′ w′
+    → (a ≡ a′) × (b ≡ b′) × (c ≡ c′) × (d ≡ d′) × (t ≡ t′) × (w ≡ w′)
+reconcile-one o l r before a b c d t w a′ b′ c′ d′ t′ w′ C D = (
+  C .archive-left ∙ sym (D .archive-left),
+  C .left-left ∙ sym (D .left-left),
+  C .right-left ∙ sym (D .right-left),
+  C .list-left ∙ sym (D .list-left),
+  C .tally-left ∙ sym (D .tally-left),
+  C .answered ∙ sym (D .answered),
+)
+
+pub move-one : (target source : List ℕ) (names : List Name) (depth : ℕ) (lent r w r′ w′ : List ℕ) → MoveCall target source names depth lent r w
+    → MoveCall target source names depth lent r′ w′ → (r ≡ r′) × (w ≡ w′)
+move-one target source names depth lent r w r′ w′ C D = (C .room ∙ sym (D .room), C .answered ∙ sym (D .answered))
+
+pub write-one : (t d s w s′ w′ : List ℕ) → WriteCall t d s w → WriteCall t d s′ w′ → (s ≡ s′) × (w ≡ w′)
+write-one t d s w s′ w′ C D = (C .written ∙ sym (D .written), C .answered ∙ sym (D .answered))
+
+pub carried-one : (left right : List ℕ) (kind leftRow rightRow : ℕ) (w w′ : List ℕ) → CarriedCall left right kind leftRow rightRow w
+    → CarriedCall left right kind leftRow rightRow w′ → w ≡ w′
+carried-one left right kind leftRow rightRow w w′ C D = C .answered ∙ sym (D .answered)

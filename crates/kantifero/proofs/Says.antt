@@ -1,0 +1,43 @@
+-- An answer that says what is due has the words of what is due, and a reconciliation's results are its call's.
+use mathlib.Core.Path.{_≡_, refl, ap, _∙_}
+use mathlib.Core.List.{List, [], _∷_}
+use native.Mathlib.Omega.{arith}
+use lib.ListN.{length}
+use Prim.Native.Nat.{ℕ}
+use Rattle.rules.specs.declared.Answer.{Answer}
+use Rattle.rules.specs.Answer.{numberOf, sideOf, placeOf, Says}
+use Rattle.rules.specs.Contract.{CheckContract}
+use Rattle.rules.specs.Refusal.{refusalOf}
+use Rattle.rules.specs.Rules.{checked}
+use Rattle.rules.proofs.Says.{says-one, says-refusal}
+use Rattle.tally.specs.declared.Tally.{Tally}
+use Rattle.reconcile.specs.declared.Reconciled.{Reconciled}
+use Rattle.reconcile.specs.Run.{Lent, lent, ReconcileContract}
+use Rattle.kantifero.specs.Words.{answerWords, reconciledWords, tallyWords, tallyIn}
+use Rattle.kantifero.specs.Calls.{ReconcileCall}
+
+pub says-words : (a due : Answer) → Says a (numberOf due) (sideOf due) (placeOf due) → answerWords a ≡ answerWords due
+says-words a due s = rw (s .number-due, s .side-due, s .place-due)
+
+pub check-says : (t : List ℕ) (a : Answer) → CheckContract t a → a ≡ refusalOf (checked t) 1
+check-says t a C = says-one a (refusalOf (checked t) 1) (C .says) (says-refusal (checked t) 1)
+
+pub reconcile-call : (o l r : List ℕ) (before : Lent) (archive left right list : List ℕ) (t : Tally) (a : Reconciled) (answer : List ℕ)
+    → ReconcileContract o l r before (lent archive left right list t) a → answer ≡ reconciledWords a
+    → ReconcileCall o l r before archive left right list (tallyWords t) answer
+reconcile-call o l r before archive left right list t a answer C e = record {
+  answered = e ∙ ap reconciledWords (C .answered);
+  archive-left = ap (λ (x : Lent). x .archive) (C .left-in);
+  left-left = ap (λ (x : Lent). x .left) (C .left-in);
+  right-left = ap (λ (x : Lent). x .right) (C .left-in);
+  list-left = ap (λ (x : Lent). x .list) (C .left-in);
+  tally-left = ap (λ (x : Lent). tallyWords (x .tally)) (C .left-in);
+}
+
+-- a tally that a refusal hands back is the three words that were lent
+pub tally-kept : (w : List ℕ) → length w ≡ 3 → tallyWords (tallyIn w) ≡ w
+tally-kept [] e = absurd (omega arith)
+tally-kept (x ∷ []) e = absurd (omega arith)
+tally-kept (x ∷ y ∷ []) e = absurd (omega arith)
+tally-kept (x ∷ y ∷ z ∷ []) e = refl
+tally-kept (x ∷ y ∷ z ∷ u ∷ w) e = absurd (omega arith)

@@ -1,0 +1,25 @@
+-- `kantifero::kantifero_write` meets its contract: the place is a row, or the bytes of the text.
+use native.Mathlib.Omega.{arith}
+use borrow.Author.Needs.{needs}
+use Rattle.listing_write.specs.Contract.{answerDue}
+use Rattle.kantifero.proofs.Says.{says-words}
+use Rattle.kantifero.proofs.Bounds.{write-place}
+use lib.ListN.{length}
+use mathlib.Core.Path.{_∙_}
+use Rattle.kantifero.proofs.kantifero_write.Statement.{statement}
+use Rattle.kantifero.proofs.kantifero_write.Tie as tie
+
+answer-words-requires : tie.Need-answer-words-requires
+answer-words-requires c κs =
+    let a = c .before .before .before .before .before .before .args in
+    omega (arith, c .before .before .write .ensures .says .place-due, write-place (a .table .now) (length (a .text .now)))
+
+returns : tie.Need-returns
+returns c =
+    let a = c .before .before .before .before .before .before .before .args in
+    let w = c .before .before .before .write .ensures in
+    record { answered = c .answer-words .ensures ∙ says-words (c .before .before .before .write .result) (answerDue (a .table .now) (length (a .text .now))) (w .says); written = w .written }
+
+pub kantifero-write-spec : {M : Type 1} → statement M
+kantifero-write-spec =
+    tie.close (tie.spec (λ c κs. search needs) answer-words-requires (λ c. search needs) returns)

@@ -1,0 +1,34 @@
+-- What each exported call leaves: the answer's eight words, and every lent buffer, for all inputs.
+use mathlib.Core.Path.{_≡_}
+use mathlib.Core.List.{List}
+use mathlib.Core.Bool.{cond}
+use lib.ListN.{length}
+use Prim.Native.Nat.{ℕ}
+use Rattle.tree.specs.Name.{Name}
+use Rattle.row.specs.Buffer.{over}
+use Rattle.row.specs.Tree.{treeOf}
+use Rattle.rules.specs.Answer.{isAccepted}
+use Rattle.reconcile.specs.Run.{Lent, runOf}
+use Rattle.moves.specs.Move.{moveOf}
+use Rattle.listing.specs.Writing.{textOf}
+use Rattle.listing_write.specs.Contract.{answerDue}
+use Rattle.kantifero.specs.Words.{answerWords, reconciledWords, tallyWords}
+
+-- a reconciliation; before is what was lent, with the three words of the tally read as one
+pub record ReconcileCall (o l r : List ℕ) (before : Lent) (archive left right list tally answer : List ℕ) : Type 0 where
+  pub answered : answer ≡ reconciledWords (runOf o l r before .answer)
+  pub archive-left : archive ≡ runOf o l r before .lent .archive
+  pub left-left : left ≡ runOf o l r before .lent .left
+  pub right-left : right ≡ runOf o l r before .lent .right
+  pub list-left : list ≡ runOf o l r before .lent .list
+  pub tally-left : tally ≡ tallyWords (runOf o l r before .lent .tally)
+
+-- a move
+pub record MoveCall (target source : List ℕ) (names : List Name) (depth : ℕ) (lent result answer : List ℕ) : Type 0 where
+  pub answered : answer ≡ answerWords (moveOf target source names depth lent .answer)
+  pub room : result ≡ moveOf target source names depth lent .room
+
+-- a table w written into the bytes d
+pub record WriteCall (w d after answer : List ℕ) : Type 0 where
+  pub answered : answer ≡ answerWords (answerDue w (length d))
+  pub written : after ≡ cond (isAccepted (answerDue w (length d))) (over d (textOf (treeOf w))) d
