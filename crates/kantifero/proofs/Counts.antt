@@ -1,18 +1,15 @@
 -- A reconciliation's place and counts have 32 bits: a row, at most 4,096 rows, at most 12,285 list entries.
 use mathlib.Core.Path.{_≡_, refl}
-use mathlib.Core.List.{List, [], _∷_, _++_}
+use mathlib.Core.List.{List, [], _∷_}
 use mathlib.Core.Bool.{true}
 use native.Mathlib.Omega.{arith}
 use lib.Dec.{leb}
-use lib.ListN.{length, getD, length-append, length-map}
+use lib.ListN.{length, getD}
 use mir.Syntax.{w32}
 use mir.Val.{Fits}
-use Prim.Native.Nat.{ℕ, suc, _+_, _/_, _≤_}
-use Rattle.tree.specs.Forest.{size, Sorted}
+use Prim.Native.Nat.{ℕ, _/_, _≤_}
+use Rattle.tree.specs.Forest.{Sorted}
 use Rattle.row.specs.Tree.{treeOf}
-use Rattle.settle.specs.Decision.{Decision, Decision.agreed, Decision.leftGets, Decision.rightGets, Decision.clash, decide}
-use Rattle.settle.specs.Plan.{Plan, Plan.done, Plan.item, Plan.both, plan}
-use Rattle.settle.specs.Results.{lineOf, list}
 use Rattle.rules.specs.declared.Answer.{Answer}
 use Rattle.rules.specs.declared.Answer.the-variants.{Accepted, Refused}
 use Rattle.rules.specs.declared.Checked.the-variants.{Fine}
@@ -22,26 +19,12 @@ use Rattle.rules.specs.Faults.{roomRule}
 use Rattle.rules.proofs.Small.{small-all}
 use Rattle.rules.proofs.Fine.{fine-formed, fine-length, fine-most}
 use Rattle.moves.proofs.Faults.{All}
-use Rattle.plan.specs.Items.{items}
-use Rattle.plan.proofs.Bound.{items-bound}
+use Rattle.plan_text.proofs.Length.{lines-bound}
 use Rattle.reconcile.specs.Answer.{answerWith}
 use Rattle.reconcile.specs.Run.{given, Lent, countsOf, tablesDue, roomsDue, runDue, runOf}
 use Rattle.reconcile.proofs.Accepted.{Passed, passed}
 use Rattle.kantifero.specs.Words.{Narrow}
 use Rattle.kantifero.proofs.Bounds.{refusal-place, unless-place, first-place}
-
--- an item gives one line at most
-list-items : (P : Plan) → length (list P) ≤ length (items P)
-unfolding list items
-list-items done = omega arith
-list-items (item n o l r s) = go (decide o l r) (list-items s)
-  where
-    go : (d : Decision) → length (list s) ≤ length (items s) → length (lineOf (n ∷ []) d ++ list s) ≤ suc (length (items s))
-    go agreed h = omega arith
-    go leftGets h = omega arith
-    go rightGets h = omega arith
-    go clash h = omega arith
-list-items (both n k s) = simp (length-append, length-map) (omega (arith, list-items k, list-items s))
 
 module _ (o l r : List ℕ) (b : Lent) where
   rooms-place : placeOf (runDue o l r b) ≤ 4096
@@ -63,11 +46,9 @@ module _ (o l r : List ℕ) (b : Lent) where
 
     entries : Passed o l r b → length (given o l r .lines) ≤ 12285
     entries P =
-        let i = items-bound (size (treeOf o) + size (treeOf l) + size (treeOf r)) (treeOf o) (treeOf l) (treeOf r) (sorted o (P .fine-archive) so) (sorted l (P .fine-left) sl) (sorted r (P .fine-right) sr) (omega arith) in
         omega (
           arith,
-          i,
-          list-items (plan (treeOf o) (treeOf l) (treeOf r)),
+          lines-bound (treeOf o) (treeOf l) (treeOf r) (sorted o (P .fine-archive) so) (sorted l (P .fine-left) sl) (sorted r (P .fine-right) sr),
           fine-length o (P .fine-archive),
           fine-length l (P .fine-left),
           fine-length r (P .fine-right),

@@ -4,7 +4,7 @@ use mathlib.Core.List.{List}
 use Prim.Native.Nat.{ℕ}
 use Rattle.tree.specs.Name.{Name}
 use Rattle.reconcile.specs.Run.{Lent}
-use Rattle.kantifero.specs.Calls.{ReconcileCall, MoveCall, WriteCall}
+use Rattle.kantifero.specs.Calls.{ReconcileCall, MoveCall, WriteCall, ReadCall}
 use Rattle.kantifero.specs.Carried.{CarriedCall}
 
 pub reconcile-one : (o l r : List ℕ) (before : Lent) (a b c d t w a′ b′ c′ d′ t′ w′ : List ℕ) → ReconcileCall o l r before a b c d t w → ReconcileCall o l r before a′ b′ c′ d′ t′ w′
@@ -28,3 +28,6 @@ write-one t d s w s′ w′ C D = (C .written ∙ sym (D .written), C .answered 
 pub carried-one : (left right : List ℕ) (kind leftRow rightRow : ℕ) (w w′ : List ℕ) → CarriedCall left right kind leftRow rightRow w
     → CarriedCall left right kind leftRow rightRow w′ → w ≡ w′
 carried-one left right kind leftRow rightRow w w′ C D = C .answered ∙ sym (D .answered)
+
+pub read-one : (t b s w s′ w′ : List ℕ) → ReadCall t b s w → ReadCall t b s′ w′ → (s ≡ s′) × (w ≡ w′)
+read-one t b s w s′ w′ C D = (C .table ∙ sym (D .table), C .answered ∙ sym (D .answered))

@@ -5,7 +5,7 @@ use native.Mathlib.Omega.{arith}
 use lib.ListN.{length}
 use Prim.Native.Nat.{ℕ}
 use Rattle.rules.specs.declared.Answer.{Answer}
-use Rattle.rules.specs.Answer.{numberOf, sideOf, placeOf, Says}
+use Rattle.rules.specs.Answer.{Says}
 use Rattle.rules.specs.Contract.{CheckContract}
 use Rattle.rules.specs.Refusal.{refusalOf}
 use Rattle.rules.specs.Rules.{checked}
@@ -13,11 +13,11 @@ use Rattle.rules.proofs.Says.{says-one, says-refusal}
 use Rattle.tally.specs.declared.Tally.{Tally}
 use Rattle.reconcile.specs.declared.Reconciled.{Reconciled}
 use Rattle.reconcile.specs.Run.{Lent, lent, ReconcileContract}
-use Rattle.kantifero.specs.Words.{answerWords, reconciledWords, tallyWords, tallyIn}
+use Rattle.kantifero.specs.Words.{eight, answerWords, reconciledWords, tallyWords, tallyIn}
 use Rattle.kantifero.specs.Calls.{ReconcileCall}
 
-pub says-words : (a due : Answer) → Says a (numberOf due) (sideOf due) (placeOf due) → answerWords a ≡ answerWords due
-says-words a due s = rw (s .number-due, s .side-due, s .place-due)
+pub says-words : (a : Answer) (number side place : ℕ) → Says a number side place → answerWords a ≡ eight number side place
+says-words a number side place s = rw (s .number-due, s .side-due, s .place-due)
 
 pub check-says : (t : List ℕ) (a : Answer) → CheckContract t a → a ≡ refusalOf (checked t) 1
 check-says t a C = says-one a (refusalOf (checked t) 1) (C .says) (says-refusal (checked t) 1)

@@ -11,8 +11,10 @@ use Rattle.rules.specs.Answer.{isAccepted}
 use Rattle.reconcile.specs.Run.{Lent, runOf}
 use Rattle.moves.specs.Move.{moveOf}
 use Rattle.listing.specs.Writing.{textOf}
+use Rattle.listing.specs.Reading.{answerOf, reading}
+use Rattle.listing_read.specs.Contract.{tableAfter}
 use Rattle.listing_write.specs.Contract.{answerDue}
-use Rattle.kantifero.specs.Words.{answerWords, reconciledWords, tallyWords}
+use Rattle.kantifero.specs.Words.{eight, answerWords, reconciledWords, tallyWords}
 
 -- a reconciliation; before is what was lent, with the three words of the tally read as one
 pub record ReconcileCall (o l r : List ℕ) (before : Lent) (archive left right list tally answer : List ℕ) : Type 0 where
@@ -32,3 +34,9 @@ pub record MoveCall (target source : List ℕ) (names : List Name) (depth : ℕ)
 pub record WriteCall (w d after answer : List ℕ) : Type 0 where
   pub answered : answer ≡ answerWords (answerDue w (length d))
   pub written : after ≡ cond (isAccepted (answerDue w (length d))) (over d (textOf (treeOf w))) d
+
+-- a text t read into the words lent, before
+pub record ReadCall (t before after answer : List ℕ) : Type 0 where
+  pub answered :
+      answer ≡ eight (answerOf (reading t (length before)) .number) (answerOf (reading t (length before)) .side) (answerOf (reading t (length before)) .place)
+  pub table : after ≡ tableAfter (reading t (length before)) (length before)

@@ -7,7 +7,7 @@ ghost use Prim.Native.Nat.{ℕ, _<_};
 ghost use Rattle.rules.specs.Answer.{placeOf};
 ghost use Rattle.reconcile.specs.Run.{lent};
 ghost use Rattle.kantifero.specs.Words.{eight, answerWords, checkWords, reconciledWords, tallyWords, tallyIn, Narrow};
-ghost use Rattle.kantifero.specs.Calls.{ReconcileCall, MoveCall, WriteCall};
+ghost use Rattle.kantifero.specs.Calls.{ReconcileCall, MoveCall, WriteCall, ReadCall};
 ghost use Rattle.kantifero.specs.Carried.{partWords, Within, CarriedCall};
 
 // A count in 32 bits.
@@ -158,5 +158,14 @@ pub extern "C" fn kantifero_write(table: &[u32], text: &mut [u8], answer: &mut [
     ensures { λ _. ⌜ WriteCall (now (table .entry)) (now (text .entry)) (now (text .exit)) (now (answer .exit)) ⌝ }
 {
     let words = answer_words(listing_write::write(table, text));
+    *answer = words;
+}
+
+// Reads a listing into a table.
+#[no_mangle]
+pub extern "C" fn kantifero_read(text: &[u8], table: &mut [u32], answer: &mut [u32; 8])
+    ensures { λ _. ⌜ ReadCall (now (text .entry)) (now (table .entry)) (now (table .exit)) (now (answer .exit)) ⌝ }
+{
+    let words = answer_words(listing_read::read(text, table));
     *answer = words;
 }

@@ -1,7 +1,6 @@
 -- `kantifero::kantifero_move` meets its contract: the place is a row, or the rows of the result.
 use native.Mathlib.Omega.{arith}
 use borrow.Author.Needs.{needs}
-use Rattle.moves.specs.Move.{moveDue}
 use Rattle.kantifero.proofs.Says.{says-words}
 use Rattle.kantifero.proofs.Bounds.{move-place}
 use mathlib.Core.Path.{_∙_}
@@ -15,9 +14,8 @@ answer-words-requires c κs =
 
 returns : tie.Need-returns
 returns c =
-    let a = c .before .before .before .before .before .before .before .before .before .args in
-    let m = c .before .before .before .make-move .ensures in
-    record { answered = c .answer-words .ensures ∙ says-words (c .before .before .before .make-move .result) (moveDue (a .target .now) (a .source .now) (a .names .now) (a .depth) (a .result .now)) (m .says); room = m .room }
+    let m = c .before .before .before .make-move in
+    record { answered = c .answer-words .ensures ∙ says-words (m .result) _ _ _ (m .ensures .says); room = m .ensures .room }
 
 pub kantifero-move-spec : {M : Type 1} → statement M
 kantifero-move-spec =

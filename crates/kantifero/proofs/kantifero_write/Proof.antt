@@ -1,7 +1,6 @@
 -- `kantifero::kantifero_write` meets its contract: the place is a row, or the bytes of the text.
 use native.Mathlib.Omega.{arith}
 use borrow.Author.Needs.{needs}
-use Rattle.listing_write.specs.Contract.{answerDue}
 use Rattle.kantifero.proofs.Says.{says-words}
 use Rattle.kantifero.proofs.Bounds.{write-place}
 use lib.ListN.{length}
@@ -16,9 +15,8 @@ answer-words-requires c κs =
 
 returns : tie.Need-returns
 returns c =
-    let a = c .before .before .before .before .before .before .before .args in
-    let w = c .before .before .before .write .ensures in
-    record { answered = c .answer-words .ensures ∙ says-words (c .before .before .before .write .result) (answerDue (a .table .now) (length (a .text .now))) (w .says); written = w .written }
+    let w = c .before .before .before .write in
+    record { answered = c .answer-words .ensures ∙ says-words (w .result) _ _ _ (w .ensures .says); written = w .ensures .written }
 
 pub kantifero-write-spec : {M : Type 1} → statement M
 kantifero-write-spec =
