@@ -1,0 +1,290 @@
+//! Three-way reconciling of directory trees.
+//!
+//! A tree is a table: a slice of 32-bit words, [`ROW`] to a row, rows in preorder.
+//!
+//! | words | meaning |
+//! |---|---|
+//! | 0 | depth, 0 for the root, at most 16 |
+//! | 1 | kind: 0 folder, 1 file |
+//! | 2 to 9 | name, 1 to 32 bytes, four to a word, first byte highest, zero filled; see [`name`] |
+//! | 10, 11 | size, high word then low |
+//! | 12 to 19 | SHA-256 digest, first eight hex digits in word 12 |
+//!
+//! [`read`] makes a table of an mtree listing and [`write()`] a listing of a table; [`check`] tells whether a table keeps
+//! the rules, which every other call does by itself. [`reconcile`] gives the new tables of both sides and of the archive,
+//! and the list of moves and clashes; [`make_move`] carries out one move, and [`carried`] finds the rows it carries.
+//!
+//! The code behind the calls is proved: for every input each call returns, and answers and leaves in the lent buffers
+//! what its contract says. It is a static library that this crate links; all unsafe code is in one module that hands it
+//! slices.
+//!
+//! ```
+//! // The archive is empty, left has a file p, right has nothing: right gets p.
+//! let text = b"#mtree\n. type=dir\np type=file size=1 \
+//!     sha256digest=e3b0c44298fc1c149afbf4c8996fb92427ae41e4649b934ca495991b7852b855\n";
+//! let mut left = [0; 40];
+//! assert_eq!(kantifero::read(text, &mut left), Ok(2));
+//! let empty = [0; 20];
+//!
+//! let run = kantifero::reconcile_in_new(&empty, &left, &empty).unwrap();
+//! assert_eq!(run.right, left);
+//! assert_eq!(run.archive, left);
+//! assert_eq!(run.list, [[2, 1, kantifero::NO_ROW]]);
+//! assert_eq!(run.tally, kantifero::Tally { left: 0, right: 1, clash: 0 });
+//!
+//! // The rows to carry, and the move that carries them.
+//! assert_eq!(kantifero::carried(&left, &empty, run.list[0]), &left[20..]);
+//! let mut names = [[0; 8]; 16];
+//! names[0] = kantifero::name(b"p").unwrap();
+//! let mut right = [0; 40];
+//! assert_eq!(kantifero::make_move(&empty, &left, &names, 1, &mut right), Ok(2));
+//! assert_eq!(right, left);
+//! ```
+#![deny(missing_docs)]
+
+mod raw;
+mod refusal;
+
+pub use refusal::Refusal;
+
+/// The words of a row.
+pub const ROW: usize = 20;
+
+/// The most rows of a table.
+pub const MOST_ROWS: usize = 4096;
+
+/// The most entries that a reconciliation lists.
+pub const MOST_ENTRIES: usize = 12285;
+
+/// The most bytes of a listing.
+pub const MOST_BYTES: usize = 65536;
+
+/// The row of an entry that a table does not have.
+pub const NO_ROW: u32 = u32::MAX;
+
+/// The rows of the new archive, left and right, and the entries of the list.
+#[derive(Clone, Copy, Debug, PartialEq, Eq, Hash)]
+pub struct Counts {
+    /// Rows of the new archive.
+    pub archive: usize,
+    /// Rows of the new left.
+    pub left: usize,
+    /// Rows of the new right.
+    pub right: usize,
+    /// Entries of the list, three words each.
+    pub list: usize,
+}
+
+/// The entries of a list by their kind.
+#[derive(Clone, Copy, Debug, Default, PartialEq, Eq, Hash)]
+pub struct Tally {
+    /// Kind 1: left gets.
+    pub left: u32,
+    /// Kind 2: right gets.
+    pub right: u32,
+    /// Kind 3: clash.
+    pub clash: u32,
+}
+
+/// The buffers that a reconciliation writes.
+#[derive(Debug)]
+pub struct Buffers<'a> {
+    /// For the new archive.
+    pub archive: &'a mut [u32],
+    /// For the new left.
+    pub left: &'a mut [u32],
+    /// For the new right.
+    pub right: &'a mut [u32],
+    /// For the list, three words an entry.
+    pub list: &'a mut [u32],
+}
+
+/// What a reconciliation gives, in buffers of its own.
+#[derive(Clone, Debug, PartialEq, Eq)]
+pub struct Reconciled {
+    /// The new archive.
+    pub archive: Vec<u32>,
+    /// The new left.
+    pub left: Vec<u32>,
+    /// The new right.
+    pub right: Vec<u32>,
+    /// The list: kind, left row, right row.
+    pub list: Vec<[u32; 3]>,
+    /// The list's entries by kind.
+    pub tally: Tally,
+}
+
+/// The place of an accepted answer, or the refusal.
+fn place(answer: [u32; 8]) -> Result<usize, Refusal> {
+    match answer {
+        [0, _, place, ..] => Ok(place as usize),
+        [number, side, place, ..] => Err(Refusal {
+            number,
+            side,
+            place,
+        }),
+    }
+}
+
+/// The words of a name of 1 to 32 bytes, as a row or a path holds it; none for another length. Whether an entry may have
+/// the name is told by the calls that are given it.
+///
+/// ```
+/// assert_eq!(kantifero::name(b"p"), Some([0x7000_0000, 0, 0, 0, 0, 0, 0, 0]));
+/// assert_eq!(kantifero::name(b""), None);
+/// ```
+pub fn name(bytes: &[u8]) -> Option<[u32; 8]> {
+    if bytes.is_empty() || 32 < bytes.len() {
+        return None;
+    }
+    let mut words = [0; 8];
+    for (i, byte) in bytes.iter().enumerate() {
+        words[i / 4] |= u32::from(*byte) << (24 - 8 * (i % 4));
+    }
+    Some(words)
+}
+
+/// Checks that a table keeps the rules: refusals 1 and 2.
+///
+/// ```
+/// assert_eq!(kantifero::check(&[0; 20]), Ok(()));
+/// let refusal = kantifero::check(&[0; 40]).unwrap_err();
+/// assert_eq!((refusal.number, refusal.side, refusal.place), (2, 1, 1));
+/// ```
+pub fn check(table: &[u32]) -> Result<(), Refusal> {
+    place(raw::check(table)).map(|_| ())
+}
+
+/// Reconciles left and right by the archive, into lent buffers. What lies past a result stays, and a refusal changes
+/// neither a buffer nor the tally.
+///
+/// ```
+/// let (empty, mut list) = ([0; 20], [0; 3]);
+/// let (mut archive, mut left, mut right) = ([9; 20], [9; 20], [9; 21]);
+/// let buffers = kantifero::Buffers { archive: &mut archive, left: &mut left, right: &mut right, list: &mut list };
+/// let mut tally = kantifero::Tally::default();
+/// let counts = kantifero::reconcile(&empty, &empty, &empty, buffers, &mut tally).unwrap();
+/// assert_eq!(counts, kantifero::Counts { archive: 1, left: 1, right: 1, list: 0 });
+/// assert_eq!((archive, right[20]), (empty, 9));
+/// ```
+pub fn reconcile(
+    archive: &[u32],
+    left: &[u32],
+    right: &[u32],
+    buffers: Buffers<'_>,
+    tally: &mut Tally,
+) -> Result<Counts, Refusal> {
+    let mut counted = [tally.left, tally.right, tally.clash];
+    let lent = [buffers.archive, buffers.left, buffers.right, buffers.list];
+    let answer = raw::reconcile([archive, left, right], lent, &mut counted);
+    place(answer)?;
+    *tally = Tally {
+        left: counted[0],
+        right: counted[1],
+        clash: counted[2],
+    };
+    Ok(Counts {
+        archive: answer[3] as usize,
+        left: answer[4] as usize,
+        right: answer[5] as usize,
+        list: answer[6] as usize,
+    })
+}
+
+/// Reconciles left and right by the archive, into new buffers, which have room for every result that is not refused.
+///
+/// ```
+/// let refusal = kantifero::reconcile_in_new(&[0; 20], &[0; 19], &[0; 20]).unwrap_err();
+/// assert_eq!(refusal.to_string(), "the table is not 20 words times 1 to 4,096, left or target");
+/// ```
+pub fn reconcile_in_new(
+    archive: &[u32],
+    left: &[u32],
+    right: &[u32],
+) -> Result<Reconciled, Refusal> {
+    let room = vec![0; ROW * MOST_ROWS];
+    let (mut new_archive, mut new_left, mut new_right) = (room.clone(), room.clone(), room);
+    let mut list = vec![0; 3 * MOST_ENTRIES];
+    let mut tally = Tally::default();
+    let buffers = Buffers {
+        archive: &mut new_archive,
+        left: &mut new_left,
+        right: &mut new_right,
+        list: &mut list,
+    };
+    let counts = reconcile(archive, left, right, buffers, &mut tally)?;
+    new_archive.truncate(ROW * counts.archive);
+    new_left.truncate(ROW * counts.left);
+    new_right.truncate(ROW * counts.right);
+    list.truncate(3 * counts.list);
+    Ok(Reconciled {
+        archive: new_archive,
+        left: new_left,
+        right: new_right,
+        list: list
+            .chunks_exact(3)
+            .map(|entry| [entry[0], entry[1], entry[2]])
+            .collect(),
+        tally,
+    })
+}
+
+/// Carries out one move: the target's subtree at a path becomes the source's, absence included. The path is the first
+/// `depth` names, 1 to 16, and the names past them are zero. The whole target afterwards is put into `result`, and its
+/// rows are told.
+///
+/// ```
+/// let refusal = kantifero::make_move(&[0; 20], &[0; 20], &[[0; 8]; 16], 1, &mut []).unwrap_err();
+/// assert_eq!(refusal.number, 5);
+/// ```
+pub fn make_move(
+    target: &[u32],
+    source: &[u32],
+    names: &[[u32; 8]; 16],
+    depth: u32,
+    result: &mut [u32],
+) -> Result<usize, Refusal> {
+    place(raw::make_move(target, source, names, depth, result))
+}
+
+/// The rows that a list entry carries: of right for kind 1, of left for kind 2, none for a removal, a clash or an entry
+/// that fits neither table. The tables are those that were reconciled.
+///
+/// ```
+/// assert!(kantifero::carried(&[0; 20], &[0; 20], [3, 0, 0]).is_empty());
+/// assert_eq!(kantifero::carried(&[0; 20], &[0; 20], [1, 0, 0]).len(), 20);
+/// ```
+pub fn carried<'a>(left: &'a [u32], right: &'a [u32], entry: [u32; 3]) -> &'a [u32] {
+    let [side, first, words, ..] = raw::carried(left, right, entry);
+    let table = match side {
+        2 => left,
+        3 => right,
+        _ => return &[],
+    };
+    &table[first as usize..][..words as usize]
+}
+
+/// Writes a table as an mtree listing, and tells its bytes.
+///
+/// ```
+/// let mut text = [0; 22];
+/// assert_eq!(kantifero::write(&[0; 20], &mut text), Ok(21));
+/// assert_eq!(&text, b"#mtree\n. type=dir\n..\n\0");
+/// assert_eq!(kantifero::write(&[0; 20], &mut text[..20]).unwrap_err().number, 3);
+/// ```
+pub fn write(table: &[u32], text: &mut [u8]) -> Result<usize, Refusal> {
+    place(raw::write(table, text))
+}
+
+/// Reads an mtree listing into a table, which is zeroed first, and tells its rows. After a refusal the table is all zero.
+///
+/// ```
+/// let mut table = [7; 40];
+/// assert_eq!(kantifero::read(b". type=dir\n", &mut table), Ok(1));
+/// assert_eq!(table, [0; 40]);
+/// let refusal = kantifero::read(b"# a comment\n. type=file\n", &mut table).unwrap_err();
+/// assert_eq!((refusal.number, refusal.place), (10, 2));
+/// ```
+pub fn read(text: &[u8], table: &mut [u32]) -> Result<usize, Refusal> {
+    place(raw::read(text, table))
+}
