@@ -304,3 +304,52 @@ fn every_refusal_has_a_sentence() {
     };
     assert_eq!(refusal.to_string(), "the line has a bad name, line 12");
 }
+
+#[test]
+fn a_table_has_4096_rows_at_most() {
+    let files: Vec<Vec<u32>> = (0..4096)
+        .map(|i| file(format!("{i:04}").as_bytes(), i))
+        .collect();
+    let (none, full, last) = (tree(&[]), tree(&files[..4095]), tree(&files[4095..]));
+    assert_eq!(kantifero::check(&full), Ok(()));
+    let refusal = kantifero::check(&tree(&files)).unwrap_err();
+    assert_eq!(
+        refusal,
+        Refusal {
+            number: 1,
+            side: 1,
+            place: 0
+        }
+    );
+    let run = kantifero::reconcile_in_new(&none, &full, &none).unwrap();
+    assert_eq!((&run.archive, &run.right), (&full, &full));
+    assert_eq!(
+        run.tally,
+        Tally {
+            left: 0,
+            right: 4095,
+            clash: 0
+        }
+    );
+    let refusal = kantifero::reconcile_in_new(&none, &full, &last).unwrap_err();
+    assert_eq!(
+        refusal,
+        Refusal {
+            number: 3,
+            side: 1,
+            place: 0
+        }
+    );
+    let mut names = [[0; 8]; 16];
+    names[0] = kantifero::name(b"4095").unwrap();
+    let mut result = vec![0; full.len() + ROW];
+    let refusal = kantifero::make_move(&full, &last, &names, 1, &mut result).unwrap_err();
+    assert_eq!(
+        refusal,
+        Refusal {
+            number: 3,
+            side: 2,
+            place: 0
+        }
+    );
+}
