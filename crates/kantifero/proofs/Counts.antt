@@ -19,7 +19,7 @@ use Rattle.rules.specs.Faults.{roomRule}
 use Rattle.rules.proofs.Small.{small-all}
 use Rattle.rules.proofs.Fine.{fine-formed, fine-length, fine-most}
 use Rattle.moves.proofs.Faults.{All}
-use Rattle.plan_text.proofs.Length.{lines-bound}
+use Rattle.plan.proofs.Bound.{lines-bound}
 use Rattle.reconcile.specs.Answer.{answerWith}
 use Rattle.reconcile.specs.Run.{given, Lent, countsOf, tablesDue, roomsDue, runDue, runOf}
 use Rattle.reconcile.proofs.Accepted.{Passed, passed}

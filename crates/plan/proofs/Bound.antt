@@ -1,7 +1,7 @@
 -- A plan has at most as many items as the three trees have entries, so 12,285 at most, four words each; and a result has
 -- at most as many entries.
 use mathlib.Core.Path.{_≡_, refl, sym}
-use mathlib.Core.List.{[], _∷_}
+use mathlib.Core.List.{[], _∷_, _++_}
 use mathlib.Core.Bool.{Bool, true, false, cond}
 use mathlib.Core.Logic.{_⊎_, inl, inr}
 use native.Mathlib.Omega.{arith}
@@ -9,9 +9,9 @@ use lib.ListN.{length, length-append, length-map}
 use Prim.Native.Nat.{ℕ, zero, suc, _+_, _*_, _≤_, _<_}
 use Rattle.tree.specs.Name.{Name}
 use Rattle.tree.specs.Forest.{TreePath, Forest, Node, Node.absent, Node.file, Node.folder, kids, size, Sorted}
-use Rattle.settle.specs.Decision.{Decision, decide}
+use Rattle.settle.specs.Decision.{Decision, Decision.agreed, Decision.leftGets, Decision.rightGets, Decision.clash, decide}
 use Rattle.settle.specs.Plan.{Plan, Plan.done, Plan.item, Plan.both, addItem, plan, settle}
-use Rattle.settle.specs.Results.{Line.line, Lines, new}
+use Rattle.settle.specs.Results.{Line.line, Lines, lineOf, list, new, outcome}
 use Rattle.stands.specs.Stands.{rowCount}
 use Rattle.tree.proofs.Never.{never}
 use Rattle.stands.proofs.Around.{size-add}
@@ -106,6 +106,23 @@ item-counts = record {
 
 pub items-bound : (o l r : Forest) → Sorted o → Sorted l → Sorted r → length (items (plan o l r)) ≤ size o + size l + size r
 items-bound o l r so sl sr = count-bound (λ p. length (items p)) item-counts (size o + size l + size r) o l r so sl sr (omega arith)
+
+-- a run lists at most as many lines as the three trees have entries
+list-items : (P : Plan) → length (list P) ≤ length (items P)
+unfolding list items
+list-items done = omega arith
+list-items (item n o l r s) = go (decide o l r) (list-items s)
+  where
+    go : (d : Decision) → length (list s) ≤ length (items s) → length (lineOf (n ∷ []) d ++ list s) ≤ suc (length (items s))
+    go agreed h = omega arith
+    go leftGets h = omega arith
+    go rightGets h = omega arith
+    go clash h = omega arith
+list-items (both n k s) = simp (length-append, length-map) (omega (arith, list-items k, list-items s))
+
+pub lines-bound : (o l r : Forest) → Sorted o → Sorted l → Sorted r → length (outcome o l r .lines) ≤ size o + size l + size r
+lines-bound o l r so sl sr =
+    omega (arith, list-items (plan o l r), items-bound o l r so sl sr)
 
 -- the rows of a result that takes, at every item, what one of the three has there
 pub record Takes (pk : Decision → Node → Node → Node → Node) : Type 0 where

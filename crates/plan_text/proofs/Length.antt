@@ -5,21 +5,20 @@ use mathlib.Core.Bool.{Bool, true, false, cond}
 use mathlib.Core.Logic.{_⊎_, inl, inr}
 use native.Mathlib.Omega.{arith}
 use lib.Dec.{eqb, ltb}
-use lib.ListN.{length, length-append, length-map}
+use lib.ListN.{length, length-append}
 use Prim.Native.Nat.{ℕ, zero, suc, _+_, _*_, _/_, _%_, _≤_}
 use Rattle.tree.specs.Name.{Name}
-use Rattle.tree.specs.Forest.{TreePath, Forest, Forest.end, Forest.leaf, Forest.dir, Node, Node.absent, Node.file, Node.folder, Present, Sorted, at, find, size}
+use Rattle.tree.specs.Forest.{TreePath, Forest, Forest.end, Forest.leaf, Forest.dir, Node, Node.absent, Node.file, Node.folder, Present, at, find, size}
 use Rattle.tree.specs.Rules.{NameRule, ContentRule, Within, WithinNode, WellFormed, bytes}
 use Rattle.tree.proofs.Rules.{within-find}
 use Rattle.rules.proofs.Words.{length-bytes}
-use Rattle.settle.specs.Decision.{Decision, Decision.agreed, Decision.leftGets, Decision.rightGets, Decision.clash, decide}
-use Rattle.settle.specs.Plan.{Plan, Plan.done, Plan.item, Plan.both, plan}
-use Rattle.settle.specs.Results.{Line.line, Lines, lineOf, list, outcome}
+use Rattle.settle.specs.Decision.{Decision.clash}
+use Rattle.settle.specs.Results.{Line.line, Lines, outcome}
 use Rattle.stands.proofs.Forest.{ruled-within}
 use Rattle.stands.proofs.Path.{at-absent, ruled-find}
 use Rattle.route.proofs.Path.{present-above}
-use Rattle.plan.specs.Items.{items, kind}
-use Rattle.plan.proofs.Bound.{items-bound}
+use Rattle.plan.specs.Items.{kind}
+use Rattle.plan.proofs.Bound.{lines-bound}
 use Rattle.tally.specs.declared.Tally.{Tally}
 use Rattle.tally.specs.Count.{tallyOf}
 use Rattle.listing.specs.Bytes.{text}
@@ -105,23 +104,6 @@ module _ (l r : Forest) (L : WellFormed l) (R : WellFormed r) where
   pub text-length : (xs : Lines) → Sided l r xs → length (planText xs) ≤ 2068 * length xs + 65
   unfolding planText
   text-length xs s = omega (arith, length-append (linesText xs) (countsText (tallyOf xs)), lines-length xs s, counts-length (tallyOf xs))
-
--- a run lists at most as many lines as the three trees have entries
-list-items : (P : Plan) → length (list P) ≤ length (items P)
-unfolding list items
-list-items done = omega arith
-list-items (item n o l r s) = go (decide o l r) (list-items s)
-  where
-    go : (d : Decision) → length (list s) ≤ length (items s) → length (lineOf (n ∷ []) d ++ list s) ≤ suc (length (items s))
-    go agreed h = omega arith
-    go leftGets h = omega arith
-    go rightGets h = omega arith
-    go clash h = omega arith
-list-items (both n k s) = simp (length-append, length-map) (omega (arith, list-items k, list-items s))
-
-pub lines-bound : (o l r : Forest) → Sorted o → Sorted l → Sorted r → length (outcome o l r .lines) ≤ size o + size l + size r
-lines-bound o l r so sl sr =
-    omega (arith, list-items (plan o l r), items-bound o l r so sl sr)
 
 -- the text of a run
 pub run-length : (o l r : Forest) → WellFormed o → WellFormed l → WellFormed r

@@ -18,13 +18,13 @@ use Rattle.rules.proofs.Fine.{table-fine}
 use Rattle.stands.specs.Stands.{rowCount}
 use Rattle.spell.specs.Puts.{Puts}
 use Rattle.plan.specs.Items.{listWords}
-use Rattle.plan.proofs.Bound.{Takes, result-bound}
+use Rattle.plan.proofs.Bound.{Takes, result-bound, lines-bound}
 use Rattle.tally.specs.Count.{tallyOf}
 use Rattle.reconcile.specs.declared.Reconciled.{Reconciled}
 use Rattle.reconcile.specs.Run.{given, Lent, ReconcileContract, runDue, runOf}
 use Rattle.reconcile.proofs.Accepted.{Room, accepted}
 use Rattle.plan_text.specs.Words.{planBytes}
-use Rattle.plan_text.proofs.Length.{lines-bound, run-length}
+use Rattle.plan_text.proofs.Length.{run-length}
 use Rattle.plan_text.proofs.Lines.{list-part, run-text}
 use Rattle.printout.specs.Printed.{planOf}
 use Rattle.printout.specs.Tables.{IsTable}
