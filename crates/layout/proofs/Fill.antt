@@ -9,9 +9,9 @@ use Rattle.tree.specs.Put.{put, update}
 use Rattle.tree.proofs.Never.{never}
 use Rattle.tree.proofs.Order.{cmp-eq}
 use Rattle.tree.proofs.Forest.{Differ, sorted-at, sorted-find}
-use Rattle.tree.proofs.Put.{find-update-same, find-update-other, sorted-update, sorted-put}
+use Rattle.tree.proofs.Put.{Open, put-here, find-update-same, find-update-other, sorted-update, sorted-put}
 use Rattle.tree.proofs.Value.{find-ext}
-use Rattle.listing.proofs.Grown.{Parent, at-put, nodeSize, parent-last, size-put}
+use Rattle.listing.proofs.Grown.{nodeSize, parent-last, size-put}
 
 by-name : {P : Type 0} (n k : Name) → (k ≡ n → P) → (Differ k n → P) → P
 by-name {P} n k same other = go (cmp k n) refl
@@ -82,7 +82,8 @@ unfolding at
 at-append [] q t = refl
 at-append (m ∷ p) q t = at-append p q (find m (kids t))
 
-parent-front : (p : TreePath) (n : Name) (t : Node) → Parent (p ++ (n ∷ [])) t → Parent p t
+parent-front : (p : TreePath) (n : Name) (t : Node) → Open (p ++ (n ∷ [])) t → Open p t
+unfolding Open
 parent-front [] n t h = tt
 parent-front (m ∷ p) n absent h = h
 parent-front (m ∷ p) n (file c) h = h
@@ -106,14 +107,14 @@ module _ {p : TreePath} {k f : Forest} (h : Has p k f) where
   pub has-sorted : Sorted k
   has-sorted = rw (h .here) at (sorted-at p (folder f) (h .sorted))
 
-  has-parent : Parent p (folder f)
+  has-parent : Open p (folder f)
   has-parent = parent-front p [] (folder f) (parent-last p [] (folder f) (rw (h .here) tt))
 
   pub fill-has : (j : Forest) → Sorted j → Has p j (fill p j f)
   fill-has j sj =
       record {
         sorted = rw (← folder-fill p j f) at (sorted-put p (folder j) (folder f) sj (h .sorted));
-        here = rw (folder-fill p j f) (at-put p (folder j) (folder f) (h .sorted) has-parent);
+        here = rw (folder-fill p j f) (put-here p (folder j) (folder f) (h .sorted) has-parent);
       }
 
   pub fill-fill : (i j : Forest) → Sorted i → Sorted j → fill p j (fill p i f) ≡ fill p j f

@@ -5,14 +5,13 @@ use lib.ListN.{length, set}
 use lib.Seq.{set-getD}
 use Prim.Native.Nat.{ℕ, _-_}
 use Rattle.tree.specs.Name.{Name}
-use Rattle.tree.specs.Forest.{Forest, Forest.end, Node, Node.absent, Node.file, Node.folder, TreePath, add, at, find, size}
+use Rattle.tree.specs.Forest.{Forest, Forest.end, Node, Node.absent, Node.file, Node.folder, Present, TreePath, add, at, find, size}
 use Rattle.tree.specs.Put.{put, update}
 use Rattle.tree.specs.Rules.{NameRule}
 use Rattle.tree.proofs.Never.{never}
 use Rattle.listing.specs.Names.{nameOf}
 use Rattle.listing.specs.Entries.{Said, Said.none, Entry, Entry.faulty, Entry.holds, entryOf, rootAs, typeIn}
 use Rattle.listing.specs.Reading.{State, State.before, State.inside, State.closed, Step.stops, Step.goes, inForce, close, closeLine, rooted, rootLine, opened, placed, entered, entryLine, lineDoes}
-use Rattle.listing.proofs.Grown.{IsThere}
 use Rattle.listing.proofs.Kept.{GoodEntry, entry-good}
 use Rattle.listing.proofs.Entered.{OneRow, one-row}
 use Rattle.listing.proofs.Ruled.{name-rule}
@@ -70,7 +69,7 @@ pub record Entering (d : Said) (n : Name) (x : Node) (l : List ℕ) : Type 0 whe
 
 -- the state after an entry of an empty root shows the entry
 module _ (d : Said) (n : Name) where
-  shown : (m : Name) (x y : Node) → IsThere x → IsThere y → goes (opened m y (add m y end) [] (d ∷ [])) ≡ goes (opened n x (add n x end) [] (d ∷ [])) → (m ≡ n) × (y ≡ x)
+  shown : (m : Name) (x y : Node) → Present x → Present y → goes (opened m y (add m y end) [] (d ∷ [])) ≡ goes (opened n x (add n x end) [] (d ∷ [])) → (m ≡ n) × (y ≡ x)
   shown m absent y h j e = absurd h
   shown m (file c) absent h j e = absurd j
   shown m (folder k) absent h j e = absurd j
@@ -79,12 +78,12 @@ module _ (d : Said) (n : Name) where
   shown m (folder k) (file c) h j e = never (cc)
   shown m (folder k) (folder i) h j e = (cc, cc)
 
-  not-empty : {P : Type 0} (x : Node) (ds : List Said) → IsThere x → goes (inside end [] ds) ≡ goes (opened n x (add n x end) [] (d ∷ [])) → P
+  not-empty : {P : Type 0} (x : Node) (ds : List Said) → Present x → goes (inside end [] ds) ≡ goes (opened n x (add n x end) [] (d ∷ [])) → P
   not-empty absent ds h e = absurd h
   not-empty (file c) ds h e = never (cc)
   not-empty (folder k) ds h e = never (cc)
 
-  not-closed : {P : Type 0} (x : Node) → IsThere x → goes (closed end) ≡ goes (opened n x (add n x end) [] (d ∷ [])) → P
+  not-closed : {P : Type 0} (x : Node) → Present x → goes (closed end) ≡ goes (opened n x (add n x end) [] (d ∷ [])) → P
   not-closed absent h e = absurd h
   not-closed (file c) h e = never (cc)
   not-closed (folder k) h e = never (cc)
@@ -93,7 +92,7 @@ first-placed : (n : Name) (x : Node) (d : Said) → placed 2 n x end [] (d ∷ [
 unfolding placed at find size put update
 first-placed n x d = refl
 
-module _ (d : Said) (n : Name) (x : Node) (l : List ℕ) (there : IsThere x) (h : Enters d n x l) where
+module _ (d : Said) (n : Name) (x : Node) (l : List ℕ) (there : Present x) (h : Enters d n x l) where
   enters-by : Kind (λ most s. lineDoes most l s) → Entering d n x l
   unfolding closeLine rootLine entryLine entryOf
   enters-by (skips k) = not-empty d n x _ there (sym (k 2 (inside end [] (d ∷ []))) ∙ h)
@@ -115,7 +114,7 @@ module _ (d : Said) (n : Name) (x : Node) (l : List ℕ) (there : IsThere x) (h 
             does = λ most f p ds i. k most (inside f p ds) ∙ rw (t, i, e, same .0, same .1);
           }
 
-pub enters-does : {d : Said} {n : Name} (x : Node) (l : List ℕ) → IsThere x → Enters d n x l → Entering d n x l
+pub enters-does : {d : Said} {n : Name} (x : Node) (l : List ℕ) → Present x → Enters d n x l → Entering d n x l
 enters-does {d} {n} x l there h = enters-by d n x l there h (kind l)
 
 known-by : (most : ℕ) (l : List ℕ) (f : Forest) (p : TreePath) (ds : List Said) (s : State) → lineDoes most l (inside f p ds) ≡ goes s

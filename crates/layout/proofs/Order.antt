@@ -10,11 +10,11 @@ use Rattle.tree.specs.Put.{update}
 use Rattle.tree.proofs.Order.{flip, cmp-eq, cmp-flip}
 use Rattle.tree.proofs.Forest.{Differ}
 use Rattle.tree.proofs.Put.{find-update-same, find-update-other, sorted-update}
+use Rattle.listing.specs.Accepted.{Inside, IsFolder}
 use Rattle.listing.specs.Lines.{lines}
 use Rattle.listing.specs.Entries.{Said, Said.none}
 use Rattle.listing.specs.Reading.{State, State.before, State.inside, Step.goes, Outcome.accepted, inForce, endsInLF, mostRows, reading}
-use Rattle.listing.proofs.Grown.{IsFolder, nodeSize}
-use Rattle.listing.proofs.Kept.{Inside}
+use Rattle.listing.proofs.Grown.{nodeSize}
 use Rattle.layout.specs.Whole.{pieces}
 use Rattle.layout.specs.Blocks.{through, Block}
 use Rattle.layout.specs.Order.{Neighbours, Reordered.same, Reordered.swapped, OrderChangesNothing}

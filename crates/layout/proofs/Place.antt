@@ -1,25 +1,26 @@
 -- An entry placed in a folder whose entries are known, and the folder closed again.
-use mathlib.Core.Path.{_≡_, refl, ap, ap₂, sym, subst, _∙_}
+use mathlib.Core.Path.{_≡_, refl, ap, sym, subst, _∙_}
 use mathlib.Core.List.{List, [], _∷_, _++_}
-use mathlib.Core.Bool.{Bool, true, false, cond, false≢true}
+use mathlib.Core.Bool.{Bool, true, false, cond}
 use native.Mathlib.Omega.{arith}
 use lib.Dec.{leb, ltb}
 use lib.ListN.{length, set, length-append, length-set}
-use lib.Seq.{take-at, getD-at, getD-set-same, set-at}
+use lib.Seq.{getD-at, getD-set-same, set-at}
 use Prim.Native.Nat.{ℕ, suc, _+_, _-_, _<_}
 use borrow.Author.Tests.{lt-leb, lt-ltb, leb-false, ltb-true}
 use Rattle.tree.specs.Name.{Name}
 use Rattle.tree.specs.Forest.{Forest, Forest.end, Node, Node.absent, Node.file, Node.folder, TreePath, Sorted, at, find, kids, size}
 use Rattle.tree.specs.Put.{put, update}
 use Rattle.tree.proofs.Never.{never}
-use Rattle.tree.proofs.Put.{find-update-same, sorted-update}
+use Rattle.tree.proofs.Put.{Open, find-update-same, sorted-update}
+use Rattle.listing.specs.Accepted.{GoodStep, Inside}
 use Rattle.listing.specs.Entries.{Said, Said.none}
-use Rattle.listing.specs.Reading.{State, State.inside, Step.stops, Step.goes, inForce, front, close, isAbsent, opened, placed}
+use Rattle.listing.specs.Reading.{State, State.inside, Step.stops, Step.goes, inForce, close, isAbsent, opened, placed}
 use Rattle.listing.proofs.Grown.{nodeSize, size-put}
-use Rattle.listing.proofs.Kept.{GoodStep, Inside}
-use Rattle.listing.proofs.Entered.{good-placed}
+use Rattle.listing.proofs.Kept.{good-default}
+use Rattle.listing.proofs.Entered.{good-placed, is-absent}
+use Rattle.listing.proofs.Steps.{close-last}
 use Rattle.layout.proofs.Known.{Entering}
-use Rattle.layout.proofs.Good.{with-default}
 use Rattle.layout.proofs.Fill.{fill, Has, has-sorted, has-entry, fill-has, fill-fill, fill-last, size-fill, update-twice}
 
 -- a state in which the folder last opened is at p, has the entries k, and d is the default
@@ -36,19 +37,14 @@ pub in-default : {most : ℕ} {p : TreePath} {d : Said} {k f : Forest} {ds : Lis
 in-default {most} {p} {d} {k} {f} {ds} e i =
     let each = i .good .each in
     record {
-      good = with-default most e (inside f p ds) (i .good);
+      good = good-default most e (inside f p ds) (i .good);
       force = rw (length-set ds (length ds - 1) e, getD-set-same ds (length ds - 1) e none (omega arith));
       here = i .here;
     }
 
 pub size-new : (n : Name) (x : Node) (k : Forest) → Sorted k → find n k ≡ absent → size (update n x k) ≡ size k + nodeSize x
-unfolding put at
+unfolding put at Open
 size-new n x k sk e = omega (arith, size-put (n ∷ []) x (folder k) sk tt, ap nodeSize e)
-
-is-absent : (x : Node) → isAbsent x ≡ true → x ≡ absent
-is-absent absent e = refl
-is-absent (file c) e = absurd (false≢true e)
-is-absent (folder k) e = absurd (false≢true e)
 
 -- there is a place for one row more, called n
 pub record Place (most : ℕ) (p : TreePath) (k f : Forest) (n : Name) : Type 0 where
@@ -79,13 +75,6 @@ module _ {most : ℕ} {p : TreePath} {d : Said} {k f : Forest} {ds : List Said} 
   size-placed e = omega (arith, size-fill (has i) (update n x k), size-new n x k (has-sorted (has i)) e)
 
 -- a folder that has been opened, and its default
-front-last : {A : Type 0} (l : List A) (x : A) → front (l ++ (x ∷ [])) ≡ l
-front-last l x = take-at l (x ∷ []) (length (l ++ (x ∷ [])) - 1) (omega (arith, length-append l (x ∷ [])))
-
-close-last : (f : Forest) (p : TreePath) (m : Name) (ds : List Said) (d : Said) → close f (p ++ (m ∷ [])) (ds ++ (d ∷ [])) ≡ inside f p ds
-close-last f [] m ds d = ap (inside f []) (front-last ds d)
-close-last f (k ∷ p) m ds d = ap₂ (inside f) (front-last (k ∷ p) m) (front-last ds d)
-
 pub close-set : (f : Forest) (p : TreePath) (m : Name) (ds : List Said) (d e : Said)
     → close f (p ++ (m ∷ [])) (set (ds ++ (d ∷ [])) (length (ds ++ (d ∷ [])) - 1) e) ≡ inside f p ds
 close-set f p m ds d e =

@@ -41,7 +41,7 @@ deeper-is : (p : TreePath) (d : ℕ) → deeper p d ≡ length p + d
 deeper-is [] d = omega arith
 deeper-is (n ∷ p) d = omega (arith, deeper-is p d)
 
-is-absent : (x : Node) → isAbsent x ≡ true → x ≡ absent
+pub is-absent : (x : Node) → isAbsent x ≡ true → x ≡ absent
 is-absent absent e = refl
 is-absent (file c) e = absurd (false≢true e)
 is-absent (folder k) e = absurd (false≢true e)

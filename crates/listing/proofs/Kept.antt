@@ -56,7 +56,7 @@ root-good isOther = tt
 root-good twice = tt
 
 module _ (most : ℕ) where
-  good-default : (v : Said) (s : State) → GoodState most s → GoodState most (withDefault v s)
+  pub good-default : (v : Said) (s : State) → GoodState most s → GoodState most (withDefault v s)
   good-default v (before d) h = tt
   good-default v (inside f p ds) h =
       record { fit = h .fit; here = h .here; named = h .named; deep = h .deep; each = length-set ds _ v ∙ h .each }

@@ -137,7 +137,7 @@ module _ (most n : ℕ) (r : List ℕ) (m : Name) (rule : NameRule m) (os : List
 front-last : {A : Type 0} (l : List A) (x : A) → front (l ++ (x ∷ [])) ≡ l
 front-last l x = take-at l (x ∷ []) (length (l ++ (x ∷ [])) - 1) (omega (arith, length-append l (x ∷ [])))
 
-close-last : (f : Forest) (p : TreePath) (m : Name) (ds : List Said) (d : Said) → close f (p ++ (m ∷ [])) (ds ++ (d ∷ [])) ≡ inside f p ds
+pub close-last : (f : Forest) (p : TreePath) (m : Name) (ds : List Said) (d : Said) → close f (p ++ (m ∷ [])) (ds ++ (d ∷ [])) ≡ inside f p ds
 close-last f [] m ds d = ap (inside f []) (front-last ds d)
 close-last f (k ∷ p) m ds d = ap₂ (inside f) (front-last (k ∷ p) m) (front-last ds d)
 

@@ -2,7 +2,7 @@
 use mathlib.Core.Path.{_≡_, refl, sym, ap, _∙_}
 use mathlib.Core.List.{List, [], _∷_, _++_, map}
 use native.Mathlib.Omega.{arith}
-use lib.ListN.{length, take, drop, getD, set, replicate, length-set, length-replicate, replicate-append-replicate, List·getD-map}
+use lib.ListN.{length, take, drop, getD, set, replicate, length-map, length-set, length-replicate, replicate-append-replicate, List·getD-map}
 use lib.Seq.{take-set-lt, take-take, getD-take, getD-set-same, take-at, take-length, length-take-le}
 use Prim.Native.Nat.{ℕ, zero, suc, _+_, _-_, _≤_, _<_}
 use Rattle.tree.specs.Name.{Name}
@@ -26,10 +26,6 @@ map-set f [] i v = refl
 map-set f (x ∷ l) zero v = refl
 map-set f (x ∷ l) (suc i) v = ap (λ (y : List _). f x ∷ y) (map-set f l i v)
 
-length-map : {A B : Type 0} (f : A → B) (l : List A) → length (map f l) ≡ length l
-length-map f [] = refl
-length-map f (x ∷ l) = ap suc (length-map f l)
-
 map-take : {A B : Type 0} (f : A → B) (n : ℕ) (l : List A) → map f (take n l) ≡ take n (map f l)
 map-take f zero [] = refl
 map-take f zero (x ∷ l) = refl
@@ -44,7 +40,7 @@ module _ (w : List ℕ) (s : Reader) (f : Forest) (p : TreePath) (ds : List Said
   pub each : length ds ≡ suc (length p)
   each =
       rw (h .defaults)
-      (length-map said (take (suc (length p)) (s .defaults)) ∙ length-take-le (suc (length p)) (s .defaults) (let e = h .wide .defaults in omega arith))
+      (length-map (take (suc (length p)) (s .defaults)) said ∙ length-take-le (suc (length p)) (s .defaults) (let e = h .wide .defaults in omega arith))
 
   pub in-folder : inForce ds ≡ said (getD (s .defaults) (s .depth - 1) 0)
   unfolding said
