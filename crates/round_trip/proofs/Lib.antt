@@ -1,0 +1,2 @@
+-- The round trip over calls.
+pub mod Calls

@@ -1,0 +1,2 @@
+-- What writing and reading promise together.
+pub mod Calls
