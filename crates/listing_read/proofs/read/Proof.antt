@@ -1,31 +1,28 @@
 -- `read` meets its contract: zeroed, then the form, then the lines; zeroed again after a refusal.
-use mathlib.Core.Path.{ap, sym, _∙_}
-use lib.ListN.{length}
+use lib.ListN.{length, length-replicate}
 use Prim.Native.Nat.{ℕ}
-use Rattle.reader.specs.State.{zeroed}
-use Rattle.listing_read.proofs.Answered.{read-accepted, read-formless, read-refused, zeros-all, zeros-long}
+use Rattle.listing_read.proofs.Answered.{read-accepted, read-formless, read-refused, zeros-all}
 use borrow.Author.Needs.{needs}
 use Rattle.listing_read.proofs.read.Statement.{statement}
 use Rattle.listing_read.proofs.read.Tie as tie
 
 read-lines-requires : tie.Need-read-lines-requires
-read-lines-requires c κs = zeros-all _ (length (c .before .before .before .before .before .before .before .before .before .args .table .now)) (c .before .before .before .before .before .zero .ensures)
+read-lines-requires c κs = zeros-all _ (length (c .before .before .before .before .before .before .before .before .before .args .table .now)) (cc)
 
 returns : tie.Need-returns
 returns c =
-    let a = c .before .before .before .before .before .before .before .before .before .before .before .before .before .before .before .args in
-    read-accepted (a .text .now) (a .table .now) (sym (c .before .before .before .before .before .before .before .before .has-form .ensures) ∙ c .before .before .before .before .before .before .before .if1 .taken) _ (zeros-long _ _ (c .before .before .before .before .before .before .before .before .before .before .before .zero .ensures)) _ _ (c .before .before .before .before .before .read-lines .ensures) _ (c .before .answer .given .1)
+    let long = length-replicate {A = ℕ} (length (c .before .before .before .before .before .before .before .before .before .before .before .before .before .before .before .args .table .now)) 0 in
+    read-accepted _ _ (cc) _ (cc) _ _ (c .before .before .before .before .before .read-lines .ensures) _ (c .before .answer .given .1)
 
 returns-2 : tie.Need-returns-2
 returns-2 c =
-    let a = c .before .before .before .before .before .before .before .before .before .before .before .before .before .before .before .before .before .before .before .args in
-    let z = zeros-long _ _ (c .before .before .before .before .before .before .before .before .before .before .before .before .before .before .before .zero .ensures) in
-    read-refused (a .text .now) (a .table .now) (sym (c .before .before .before .before .before .before .before .before .before .before .before .before .has-form .ensures) ∙ c .before .before .before .before .before .before .before .before .before .before .before .if1 .taken) _ z _ _ (c .before .before .before .before .before .before .before .before .before .read-lines .ensures) _ _ _ _ (c .before .before .before .before .before .answer2 .given .1) (c .before .before .zero2 .ensures ∙ ap (λ (n : ℕ). zeroed n) (c .before .before .before .before .before .before .before .before .before .read-lines .kept .1 .0 ∙ z))
+    let long = length-replicate {A = ℕ} (length (c .before .before .before .before .before .before .before .before .before .before .before .before .before .before .before .before .before .before .before .args .table .now)) 0 in
+    let ran = c .before .before .before .before .before .before .before .before .before .read-lines in
+    let same = ran .kept .1 .0 in
+    read-refused _ _ (cc) _ (cc) _ _ (ran .ensures) _ _ _ _ (c .before .before .before .before .before .answer2 .given .1) (cc)
 
 returns-3 : tie.Need-returns-3
-returns-3 c =
-    let a = c .before .before .before .before .before .before .before .before .args in
-    read-formless (a .text .now) (a .table .now) _ (sym (c .before .has-form .ensures) ∙ c .if1 .left) (c .before .before .before .before .zero .ensures)
+returns-3 c = read-formless _ _ _ (cc) (cc)
 
 pub read-spec : {M : Type 1} → statement M
 read-spec =

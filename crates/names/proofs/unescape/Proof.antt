@@ -32,7 +32,7 @@ returns-2 c =
     let l = c .before .before .before .before in
     let w = l .before .before .args .word .now in
     record {
-      told = sym (spelt-long w (l .loop .bytes) (l .loop .n) (l .loop .i) (l .loop .inv) _ _ (c .if2 .taken) (decode-at w (l .loop .i) (c .before .before .before .loop-test .taken)));
+      told = sym (spelt-long w (l .loop .bytes) (l .loop .n) (l .loop .i) (l .loop .inv) _ _ (omega arith) (decode-at w (l .loop .i) (c .before .before .before .loop-test .taken)));
       words = λ e. absurd (false≢true e);
     }
 

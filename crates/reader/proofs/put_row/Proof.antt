@@ -14,7 +14,7 @@ known c = in-use (c .args .t .now) (c .args .t2) (opened-ready _ _ (c .pre .0) (
 returns : tie.Need-returns
 returns c =
     let a = c .before .before .args in
-    record { does = λ f p ds g h. did-deep (a .t .now) (a .t2) (a .name) (a .t4) f p ds g h (a .t .now) (record { number = 14; state = a .t2 }) (c .if1 .taken) refl }
+    record { does = λ f p ds g h. did-deep (a .t .now) (a .t2) (a .name) (a .t4) f p ds g h (a .t .now) _ (c .if1 .taken) (omega arith) }
 
 sub-k : tie.Need-sub-k
 sub-k c = let p = c .before .before .pre .1 in omega arith
@@ -62,7 +62,7 @@ returns-2 c =
     let s = c .before .before .before .before .before .before .before .before .before .before .before .before .before .before .before .before in
     record {
       does = λ f p ds g h.
-          did-put (s .args .t .now) (s .args .t2) (s .args .name) (s .args .t4) f p ds g h (c .before .before .before .insert .last .0) (record { number = 0; state = c .enter .result }) (c .before .before .before .before .before .before .before .before .before .before .before .before .before .before .if1 .left) _ (sym (c .before .before .before .before .before .before .before .before .before .i .given .1) ∙ c .before .before .before .before .before .before .before .before .before .before .before .find-spot .ensures .answer)
+          did-put (s .args .t .now) (s .args .t2) (s .args .name) (s .args .t4) f p ds g h (c .before .before .before .insert .last .0) _ (c .before .before .before .before .before .before .before .before .before .before .before .before .before .before .if1 .left) _ (sym (c .before .before .before .before .before .before .before .before .before .i .given .1) ∙ c .before .before .before .before .before .before .before .before .before .before .before .find-spot .ensures .answer)
           (s .pre .2) (search needs) (sym (c .before .before .before .before .before .before .if2 .taken) ∙ c .before .before .before .before .before .before .before .has-room .ensures) refl (c .enter .ensures)
           (c .before .before .before .insert .ensures ∙ rw (c .before .before .before .before .row-of .ensures));
     }
@@ -72,7 +72,7 @@ returns-3 c =
     let a = c .before .before .before .before .before .before .before .args in
     record {
       does = λ f p ds g h.
-          did-taken (a .t .now) (a .t2) (a .name) (a .t4) f p ds g h (a .t .now) (record { number = 13; state = a .t2 }) (c .before .before .before .before .before .if1 .left) (sym (c .enum-told .given .1) ∙ c .before .before .find-spot .ensures .answer) refl;
+          did-taken (a .t .now) (a .t2) (a .name) (a .t4) f p ds g h (a .t .now) _ (c .before .before .before .before .before .if1 .left) (sym (c .enum-told .given .1) ∙ c .before .before .find-spot .ensures .answer) (omega arith);
     }
 
 returns-4 : tie.Need-returns-4
@@ -80,8 +80,8 @@ returns-4 c =
     let a = c .before .before .before .before .before .before .before .before .before .before .args in
     record {
       does = λ f p ds g h.
-          did-full (a .t .now) (a .t2) (a .name) (a .t4) f p ds g h (a .t .now) (record { number = 3; state = a .t2 }) (c .before .before .before .before .before .before .before .before .if1 .left) _ (sym (c .before .before .before .i .given .1) ∙ c .before .before .before .before .before .find-spot .ensures .answer)
-          (sym (c .if2 .left) ∙ c .before .has-room .ensures) refl;
+          did-full (a .t .now) (a .t2) (a .name) (a .t4) f p ds g h (a .t .now) _ (c .before .before .before .before .before .before .before .before .if1 .left) _ (sym (c .before .before .before .i .given .1) ∙ c .before .before .before .before .before .find-spot .ensures .answer)
+          (sym (c .if2 .left) ∙ c .before .has-room .ensures) (omega arith);
     }
 
 pub put-row-spec : {M : Type 1} → statement M
