@@ -9,7 +9,7 @@ use lib.Seq.{getD-at, getD-set-same, set-at}
 use Prim.Native.Nat.{ℕ, suc, _+_, _-_, _<_}
 use borrow.Author.Tests.{lt-leb, lt-ltb, leb-false, ltb-true}
 use Rattle.tree.specs.Name.{Name}
-use Rattle.tree.specs.Forest.{Forest, Forest.end, Node, Node.absent, Node.file, Node.folder, TreePath, Sorted, at, find, kids, size}
+use Rattle.tree.specs.Forest.{Forest, Forest.end, Node, Node.absent, Node.folder, TreePath, Sorted, at, find, kids, size}
 use Rattle.tree.specs.Put.{put, update}
 use Rattle.tree.proofs.Never.{never}
 use Rattle.tree.proofs.Put.{Open, find-update-same, sorted-update}

@@ -14,7 +14,7 @@ use Rattle.reader.specs.State.{zeroed}
 use Rattle.listing_read.specs.Contract.{Answers, RanLines, ReadContract, hasForm, isTaken, tableAfter}
 
 -- zeros, as many as there are words
-pub zeros-long : (w : List ℕ) (n : ℕ) → w ≡ zeroed n → length w ≡ n
+zeros-long : (w : List ℕ) (n : ℕ) → w ≡ zeroed n → length w ≡ n
 zeros-long w n e = ap length e ∙ length-replicate {A = ℕ} n 0
 
 pub zeros-all : (w : List ℕ) (n : ℕ) → w ≡ zeroed n → w ≡ zeroed (length w)

@@ -25,8 +25,7 @@ use Rattle.listing.specs.Reading.{Outcome.accepted, reading}
 use Rattle.listing.specs.Writing.{textOf}
 use Rattle.listing.proofs.RoundTrip.{round-trip}
 use Rattle.listing_write.specs.Contract.{WriteContract, answerDue, answerFor, fits}
-use Rattle.listing_read.specs.Contract.{ReadContract}
-use Rattle.round_trip.specs.Calls.{CallsRoundTrip, Same}
+use Rattle.round_trip.specs.Calls.{CallsRoundTrip}
 
 -- an acceptance is due to a fine table whose text s fits, and to no other
 record Due (c : Checked) (s : List ℕ) (room : ℕ) : Type 0 where
