@@ -77,30 +77,23 @@ pub fn print_plan(out: &mut [u8], archive: &[u8], left: &[u8], right: &[u8]) -> 
     let b = read_file(left, &mut l);
     let c = read_file(right, &mut r);
     match a {
-        rules::Answer::Accepted { place } => {
-            let x = 20 * place;
-            match b {
-                rules::Answer::Accepted { place } => {
-                    let y = 20 * place;
-                    match c {
-                        rules::Answer::Accepted { place } => {
-                            let z = 20 * place;
-                            put_run(out, &o[..x], &l[..y], &r[..z])
-                        }
-                        rules::Answer::Refused {
-                            number,
-                            side: _,
-                            place,
-                        } => put_refused(out, b"right", number, place),
-                    }
+        rules::Answer::Accepted { place: x } => match b {
+            rules::Answer::Accepted { place: y } => match c {
+                rules::Answer::Accepted { place: z } => {
+                    put_run(out, &o[..20 * x], &l[..20 * y], &r[..20 * z])
                 }
                 rules::Answer::Refused {
                     number,
                     side: _,
                     place,
-                } => put_refused(out, b"left", number, place),
-            }
-        }
+                } => put_refused(out, b"right", number, place),
+            },
+            rules::Answer::Refused {
+                number,
+                side: _,
+                place,
+            } => put_refused(out, b"left", number, place),
+        },
         rules::Answer::Refused {
             number,
             side: _,

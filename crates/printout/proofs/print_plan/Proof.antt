@@ -19,42 +19,35 @@ left-read c = taken _ _ _ _ (c .before .before .before .before .before .before .
 right-read : (c : tie.After-c) → Taken (fileRead (c .before .before .before .before .before .before .before .before .before .before .before .before .before .before .before .before .before .before .before .before .before .args .right .now)) (c .before .before .before .before .before .before .before .before .before .read-file3 .last .1 .0) (c .c .given .0 .0)
 right-read c = taken _ _ _ _ (c .before .before .before .before .before .before .before .before .before .read-file3 .ensures) (c .c .given .1)
 
-mul-x : tie.Need-mul-x
-mul-x c = let h = archive-read (c .before) .few in omega arith
-
-mul-y : tie.Need-mul-y
-mul-y c = let h = left-read (c .before) .few in omega arith
-
-mul-z : tie.Need-mul-z
-mul-z c = let h = right-read (c .before) .few in omega arith
+mul-o : tie.Need-mul-o
+mul-o c = let h = archive-read (c .before .before .before .before .before .before .before .before) .few in omega arith
 
 array-share-prefix-o : tie.Need-array-share-prefix-o
-array-share-prefix-o c =
-    taken-part (archive-read (c .before .before .before .before .before .before .before .before)) (c .before .before .before .before .before .before .before .before .before .before .before .before .before .before .before .before .before .read-file .kept .1 .0) (length-replicate {A = ℕ} 2560 0) .0
+array-share-prefix-o c = taken-part (archive-read (c .before .before .before .before .before .before .before .before)) (c .before .before .before .before .before .before .before .before .before .before .before .before .before .before .before .before .before .read-file .kept .1 .0) (length-replicate {A = ℕ} 2560 0) .0
 
 slice-aggregate-put-run : tie.Need-slice-aggregate-put-run
-slice-aggregate-put-run c =
-    taken-part (archive-read (c .before .before .before .before .before .before .before .before .before)) (c .before .before .before .before .before .before .before .before .before .before .before .before .before .before .before .before .before .before .read-file .kept .1 .0) (length-replicate {A = ℕ} 2560 0) .1
+slice-aggregate-put-run c = taken-part (archive-read (c .before .before .before .before .before .before .before .before .before)) (c .before .before .before .before .before .before .before .before .before .before .before .before .before .before .before .before .before .before .read-file .kept .1 .0) (length-replicate {A = ℕ} 2560 0) .1
+
+mul-l : tie.Need-mul-l
+mul-l c = let h = left-read (c .before .before .before .before .before .before) .few in omega arith
 
 array-share-prefix-l : tie.Need-array-share-prefix-l
-array-share-prefix-l c =
-    taken-part (left-read (c .before .before .before .before .before .before)) (c .before .before .before .before .before .before .before .before .before .before .before .before .before .before .before .read-file2 .kept .1 .0) (length-replicate {A = ℕ} 2560 0) .0
+array-share-prefix-l c = taken-part (left-read (c .before .before .before .before .before .before)) (c .before .before .before .before .before .before .before .before .before .before .before .before .before .before .before .read-file2 .kept .1 .0) (length-replicate {A = ℕ} 2560 0) .0
 
 slice-aggregate-put-run-2 : tie.Need-slice-aggregate-put-run-2
-slice-aggregate-put-run-2 c =
-    taken-part (left-read (c .before .before .before .before .before .before .before)) (c .before .before .before .before .before .before .before .before .before .before .before .before .before .before .before .before .read-file2 .kept .1 .0) (length-replicate {A = ℕ} 2560 0) .1
+slice-aggregate-put-run-2 c = taken-part (left-read (c .before .before .before .before .before .before .before)) (c .before .before .before .before .before .before .before .before .before .before .before .before .before .before .before .before .read-file2 .kept .1 .0) (length-replicate {A = ℕ} 2560 0) .1
+
+mul-r : tie.Need-mul-r
+mul-r c = let h = right-read (c .before .before .before .before) .few in omega arith
 
 array-share-prefix-r : tie.Need-array-share-prefix-r
-array-share-prefix-r c =
-    taken-part (right-read (c .before .before .before .before)) (c .before .before .before .before .before .before .before .before .before .before .before .before .before .read-file3 .kept .1 .0) (length-replicate {A = ℕ} 2560 0) .0
+array-share-prefix-r c = taken-part (right-read (c .before .before .before .before)) (c .before .before .before .before .before .before .before .before .before .before .before .before .before .read-file3 .kept .1 .0) (length-replicate {A = ℕ} 2560 0) .0
 
 slice-aggregate-put-run-3 : tie.Need-slice-aggregate-put-run-3
-slice-aggregate-put-run-3 c =
-    taken-part (right-read (c .before .before .before .before .before)) (c .before .before .before .before .before .before .before .before .before .before .before .before .before .before .read-file3 .kept .1 .0) (length-replicate {A = ℕ} 2560 0) .1
+slice-aggregate-put-run-3 c = taken-part (right-read (c .before .before .before .before .before)) (c .before .before .before .before .before .before .before .before .before .before .before .before .before .before .read-file3 .kept .1 .0) (length-replicate {A = ℕ} 2560 0) .1
 
 put-run-requires : tie.Need-put-run-requires
-put-run-requires c κs =
-    (archive-read (c .before .before .before .before .before .before .before .before .before .before .before) .table, left-read (c .before .before .before .before .before .before .before .before) .table, right-read (c .before .before .before .before .before) .table)
+put-run-requires c κs = (archive-read (c .before .before .before .before .before .before .before .before .before .before .before) .table, left-read (c .before .before .before .before .before .before .before .before) .table, right-read (c .before .before .before .before .before) .table)
 
 returns : tie.Need-returns
 returns c =
@@ -97,15 +90,15 @@ print-plan-spec =
     (λ c. search needs)
     (λ c κs. search needs)
     (λ c. search needs)
-    mul-x
     (λ c. search needs)
-    mul-y
     (λ c. search needs)
-    mul-z
+    mul-o
     array-share-prefix-o
     slice-aggregate-put-run
+    mul-l
     array-share-prefix-l
     slice-aggregate-put-run-2
+    mul-r
     array-share-prefix-r
     slice-aggregate-put-run-3
     put-run-requires
