@@ -43,7 +43,7 @@ module _ (ws : Words) (room : ℕ) (s : Reader) where
 
   -- first
   module _ (none : s .count ≡ 0) (v : ℕ) (in-force : InForce s v) where
-    pub root-first : (r : Went) → ((w : List ℕ) (d : Said) → length w ≡ room → said v ≡ d → Waits w s d → Did (rooted (mostRows room) d (rootAs (typeIn (said v) ws))) w r)
+    root-first : (r : Went) → ((w : List ℕ) (d : Said) → length w ≡ room → said v ≡ d → Waits w s d → Did (rooted (mostRows room) d (rootAs (typeIn (said v) ws))) w r)
         → Roots ws room s r
     unfolding rootLine
     root-first r k = record { does = λ w t l h. go w t l h }

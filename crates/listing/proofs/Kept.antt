@@ -48,13 +48,6 @@ entry-good isFile ws = one-each (values (text "size") ws) (values (text "sha256d
 entry-good isOther ws = tt
 entry-good twice ws = tt
 
-pub root-good : (t : Said) → GoodEntry (rootAs t)
-root-good none = tt
-root-good isDir = refl
-root-good isFile = tt
-root-good isOther = tt
-root-good twice = tt
-
 module _ (most : ℕ) where
   pub good-default : (v : Said) (s : State) → GoodState most s → GoodState most (withDefault v s)
   good-default v (before d) h = tt

@@ -9,7 +9,6 @@ pub mod Spot
 pub mod Steps
 pub mod RoundTrip
 pub mod Ruled
-pub mod NameTest
 pub mod Grown
 pub mod Kept
 pub mod Entered
