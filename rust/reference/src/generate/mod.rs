@@ -3,6 +3,7 @@
 mod faults;
 mod layout;
 mod misplaced;
+mod shapes;
 mod tables;
 mod texts;
 mod trees;
@@ -10,6 +11,7 @@ mod words;
 
 pub use faults::{faulty, Faulty, FAULTS};
 pub use layout::{layout, listing, Before, Layout, Line, What};
+pub use shapes::{changed, shaped, strewn, Change, Shape, CHANGES, SHAPES};
 pub use tables::{altered, damaged, entry, path, Damage, Damaged, DAMAGES};
 pub use texts::{crowd, hurt, padded, soup};
 pub use trees::{edited, file, name, three, tree, Three};

@@ -1,0 +1,182 @@
+//! Reconciling: related trees, all rooms around the exact ones, large trees and the limits.
+
+use compare::{both, Case, Tried};
+use reference::generate::{self, Three};
+use reference::{Entries, Node, Outcome, Rooms, MOST_ROWS, ROW};
+
+const UNITS: [usize; 4] = [ROW, ROW, ROW, 3];
+
+fn parts(tables: &[Vec<u32>; 3]) -> [&[u32]; 3] {
+    tables.each_ref().map(Vec::as_slice)
+}
+
+/// What the reference makes of three tables where there is room for everything.
+fn outcome(tables: &[Vec<u32>; 3]) -> Outcome {
+    let [archive, left, right] = parts(tables);
+    reference::reconcile(archive, left, right, Rooms::AMPLE).expect("small trees are accepted")
+}
+
+fn rooms([archive, left, right, list]: [usize; 4]) -> Rooms {
+    Rooms {
+        archive,
+        left,
+        right,
+        list,
+    }
+}
+
+#[test]
+fn related_trees() {
+    let mut tried = Tried::new("related trees");
+    tried.cases(1_000_000, 25_000, |case| {
+        let size = generate::size(&mut case.rng).min(120);
+        let tables = generate::three(&mut case.rng, size).tables();
+        let due = outcome(&tables);
+        for (kind, count) in due.tally.iter().enumerate() {
+            if *count > 0 {
+                case.saw(["left gets", "right gets", "clash"][kind]);
+            }
+        }
+        let rooms = generate::rooms(&mut case.rng, &due);
+        both::reconcile(case, parts(&tables), rooms);
+    });
+    tried.end(&[
+        ("reconcile", 25_000),
+        ("reconcile 0", 15_000),
+        ("reconcile 3 side 1", 500),
+        ("reconcile 3 side 2", 500),
+        ("reconcile 3 side 3", 500),
+        ("reconcile 3 side 4", 300),
+        ("left gets", 5_000),
+        ("right gets", 5_000),
+        ("clash", 5_000),
+    ]);
+}
+
+/// Each result's room from none to more than a unit too long, the others exact or short as well.
+#[test]
+fn all_rooms() {
+    let mut tried = Tried::new("all rooms");
+    tried.cases(1_100_000, 250, |case| {
+        let size = generate::size(&mut case.rng).min(40);
+        let tables = generate::three(&mut case.rng, size).tables();
+        let counts = outcome(&tables).counts();
+        let exact = [0, 1, 2, 3].map(|side| counts[side] as usize * UNITS[side]);
+        for side in 0..4 {
+            let unit = UNITS[side];
+            let short = exact[side].saturating_sub(unit + 1);
+            for room in [0].into_iter().chain(short..=exact[side] + unit + 1) {
+                let mut words = exact;
+                words[side] = room;
+                both::reconcile(case, parts(&tables), rooms(words));
+            }
+            for other in 0..4 {
+                let mut words = exact;
+                words[side] = words[side].saturating_sub(1);
+                words[other] = words[other].saturating_sub(1 + case.rng.below(UNITS[other]));
+                both::reconcile(case, parts(&tables), rooms(words));
+            }
+        }
+    });
+    tried.end(&[
+        ("reconcile", 30_000),
+        ("reconcile 0", 10_000),
+        ("reconcile 3 side 1", 3_000),
+        ("reconcile 3 side 2", 3_000),
+        ("reconcile 3 side 3", 3_000),
+        ("reconcile 3 side 4", 500),
+    ]);
+}
+
+/// Rooms for everything that three tables can come to.
+fn enough(tables: &[Vec<u32>; 3]) -> Rooms {
+    let words: usize = tables.iter().map(Vec::len).sum();
+    rooms([words; 4])
+}
+
+#[test]
+fn large_trees() {
+    let mut tried = Tried::new("large trees");
+    tried.cases(1_200_000, 200, |case| {
+        let rng = &mut case.rng;
+        let shape = rng.pick(&generate::SHAPES);
+        let rows = rng.pick(&[256, 1000, 2000, 4095, 4096]);
+        let three = if rng.one_in(2) {
+            let change = rng.pick(&generate::CHANGES);
+            generate::changed(rng, shape, rows, change)
+        } else {
+            let archive = generate::shaped(rng, shape, rows);
+            let odds = rng.pick(&[8, 40, 400]);
+            let left = generate::strewn(rng, &archive, odds, MOST_ROWS);
+            let right = generate::strewn(rng, &archive, odds, MOST_ROWS);
+            Three {
+                archive,
+                left,
+                right,
+            }
+        };
+        let tables = three.tables();
+        if tables.iter().all(|table| table.len() == MOST_ROWS * ROW) {
+            case.saw("three times 4,096 rows");
+        }
+        both::reconcile(case, parts(&tables), enough(&tables));
+    });
+    tried.end(&[
+        ("reconcile", 200),
+        ("reconcile 0", 150),
+        ("three times 4,096 rows", 10),
+    ]);
+}
+
+/// A folder of so many rows, itself one of them.
+fn pile(case: &mut Case, rows: usize) -> Node {
+    generate::shaped(&mut case.rng, generate::Shape::Wide, rows)
+}
+
+fn tree<const N: usize>(entries: [(&str, Node); N]) -> Node {
+    let named = entries.map(|(name, node)| (name.as_bytes().to_vec(), node));
+    Node::Folder(Entries::from(named))
+}
+
+/// Results of about 4,096 rows, of the archive alone, of left alone and of right alone.
+#[test]
+fn results_at_the_limit() {
+    let mut tried = Tried::new("results at the limit");
+    tried.cases(1_300_000, 48, |case| {
+        let one = 3 + case.rng.below(4000);
+        let over = case.rng.below(4);
+        // With the root these are 4,095 to 4,098 rows.
+        let other = MOST_ROWS - 2 + over - one;
+        let (one, other) = (pile(case, one), pile(case, other));
+        let (f, g) = (generate::file(&mut case.rng), pile(case, 1));
+        let side = case.rng.below(3);
+        let three = match side {
+            0 => Three {
+                archive: tree([("p", one)]),
+                left: tree([("p", f), ("q", other.clone())]),
+                right: tree([("p", g), ("q", other)]),
+            },
+            1 => Three {
+                archive: tree([]),
+                left: tree([("p", one)]),
+                right: tree([("p", f), ("q", other)]),
+            },
+            _ => Three {
+                archive: tree([]),
+                left: tree([("p", f), ("q", other)]),
+                right: tree([("p", one)]),
+            },
+        };
+        let tables = three.tables();
+        let run = both::reconcile(case, parts(&tables), enough(&tables));
+        if run.is_some() != (over < 2) {
+            case.fail("4,096 rows are taken and 4,097 refused");
+        }
+    });
+    tried.end(&[
+        ("reconcile 0", 12),
+        ("reconcile 3 side 1", 4),
+        ("reconcile 3 side 2", 4),
+        ("reconcile 3 side 3", 4),
+    ]);
+}
