@@ -1,0 +1,137 @@
+//! The measured lines, as a table, and what they say about the goals.
+
+use crate::timing::Time;
+
+/// One measured call.
+#[derive(Clone, Debug)]
+pub struct Line {
+    /// The call.
+    pub call: &'static str,
+    /// The shape of its trees, and what else sets it apart.
+    pub shape: String,
+    /// Rows of one tree.
+    pub rows: usize,
+    /// Rows that are given to the call in all, or that it makes of a text.
+    pub all_rows: usize,
+    /// The library's time.
+    pub library: Time,
+    /// The reference's time over the same words.
+    pub reference: Time,
+    /// The time of a plain copy of as much as the call hands back.
+    pub copy: Time,
+}
+
+impl Line {
+    /// How often the library's time fits in the reference's.
+    fn faster(&self) -> f64 {
+        self.reference.median / self.library.median
+    }
+
+    /// How often the copy's time fits in the library's.
+    fn copies(&self) -> f64 {
+        self.library.median / self.copy.median
+    }
+
+    fn per_row(&self) -> f64 {
+        self.library.median / self.all_rows as f64
+    }
+
+    fn named(&self) -> String {
+        format!("{} {} {}", self.call, self.shape, self.rows)
+    }
+}
+
+/// Prints the head of a table.
+pub fn head(title: &str) {
+    println!("\n### {title}\n");
+    println!("| call | trees | rows | library us | reference us | copy us | reference / library | library / copy | ns a row |");
+    println!("|---|---|--:|--:|--:|--:|--:|--:|--:|");
+}
+
+/// Prints a line of a table.
+pub fn show(line: &Line) {
+    let micros = |time: Time| format!("{:.2}", time.median / 1000.0);
+    println!(
+        "| {} | {} | {} | {} | {} | {} | {:.1} | {:.1} | {:.1} |",
+        line.call,
+        line.shape,
+        line.rows,
+        micros(line.library),
+        micros(line.reference),
+        micros(line.copy),
+        line.faster(),
+        line.copies(),
+        line.per_row()
+    );
+}
+
+/// Prints the line that is worst by a measure, with that measure and the goal for it.
+fn goal<'a>(
+    what: &str,
+    met: impl Fn(f64) -> bool,
+    measured: impl Iterator<Item = (String, f64)> + 'a,
+    worse: impl Fn(f64, f64) -> bool,
+) {
+    let all: Vec<(String, f64)> = measured.collect();
+    let missed = all.iter().filter(|one| !met(one.1)).count();
+    let worst = all
+        .iter()
+        .reduce(|one, other| if worse(other.1, one.1) { other } else { one });
+    let (name, value) = worst.expect("something was measured");
+    let said = if missed == 0 { "met" } else { "missed" };
+    println!(
+        "- {what}: {said}; worst {value:.2} ({name}); {missed} of {} over",
+        all.len()
+    );
+}
+
+/// Prints what the lines say about the goals.
+pub fn goals(lines: &[Line]) {
+    println!("\n### Goals\n");
+    let small = |a: f64, b: f64| a < b;
+    let large = |a: f64, b: f64| a > b;
+    goal(
+        "no call is slower than the reference (reference / library at least 1)",
+        |ratio| ratio >= 1.0,
+        lines.iter().map(|line| (line.named(), line.faster())),
+        small,
+    );
+    let reconciled = || {
+        lines
+            .iter()
+            .filter(|line| line.call == "reconcile" && line.rows == 4096)
+    };
+    goal(
+        "reconcile of three times 4,096 rows is five times faster than the reference",
+        |ratio| ratio >= 5.0,
+        reconciled().map(|line| (line.named(), line.faster())),
+        small,
+    );
+    goal(
+        "it takes at most four times a copy",
+        |ratio| ratio <= 4.0,
+        reconciled().map(|line| (line.named(), line.copies())),
+        large,
+    );
+    let grown = lines.iter().filter(|line| line.rows == 4096);
+    let growth = grown.filter_map(|line| {
+        let small = lines.iter().find(|other| {
+            (other.call, &other.shape, other.rows) == (line.call, &line.shape, 256)
+        })?;
+        Some((line.named(), line.per_row() / small.per_row()))
+    });
+    goal(
+        "a row of 4,096 costs at most one and a half times one of 256",
+        |ratio| ratio <= 1.5,
+        growth,
+        large,
+    );
+    let spread = lines
+        .iter()
+        .map(|line| line.library.spread)
+        .fold(0.0, f64::max);
+    println!(
+        "\nThe library's quartiles are at most {:.0} % of the median apart.",
+        100.0 * spread
+    );
+}
