@@ -1,5 +1,6 @@
 //! How long each call takes, for trees of three shapes and sizes: the proved library, the
-//! reference over the same words, and a plain copy of as much as the call hands back.
+//! reference over the same words, and a plain copy of as much as the call hands back. With the
+//! argument `wall` the clock on the wall measures, else the thread's own.
 #![deny(missing_docs)]
 
 mod inputs;
@@ -13,12 +14,15 @@ use kantifero::{Buffers, Tally, MOST_ROWS, ROW};
 use reference::generate::{self, Change, Random, Shape, CHANGES, SHAPES};
 use reference::Rooms;
 use report::Line;
-use timing::times;
+use timing::{times, Clock};
 
 /// The rows of one tree.
 const SIZES: [usize; 3] = [16, 256, 4096];
 
 fn main() {
+    let wall = std::env::args().nth(1).is_some_and(|word| word == "wall");
+    timing::measure_by(if wall { Clock::Wall } else { Clock::Thread });
+    println!("clock: {}", if wall { "wall" } else { "thread" });
     let mut rng = Random::new(2020);
     let mut lines = Vec::new();
     report::head("Reconcile: rows of each of three trees");

@@ -1,10 +1,25 @@
 //! Medians of repeated runs.
 
-#[cfg(target_os = "linux")]
-use clock::Now;
-use std::time::Duration;
-#[cfg(not(target_os = "linux"))]
-use std::time::Instant as Now;
+use std::sync::OnceLock;
+use std::time::{Duration, Instant};
+
+/// The clock that measures.
+#[derive(Clone, Copy, Debug, PartialEq, Eq)]
+pub enum Clock {
+    /// The one on the wall, for a machine that does nothing else.
+    Wall,
+    /// That of this thread, which stands while other programs have the core: beside them a clock on
+    /// the wall would measure their work too.
+    Thread,
+}
+
+/// The clock, once it has been chosen.
+static CLOCK: OnceLock<Clock> = OnceLock::new();
+
+/// Chooses the clock; the first choice counts.
+pub fn measure_by(clock: Clock) {
+    CLOCK.get_or_init(|| clock);
+}
 
 /// Samples of each call, unless they take too long.
 const SAMPLES: usize = 41;
@@ -64,50 +79,45 @@ fn repeats(call: &mut dyn FnMut()) -> usize {
 
 /// How long so many runs of a call take.
 fn sample(call: &mut dyn FnMut(), repeats: usize) -> Duration {
-    let began = Now::now();
+    match CLOCK.get_or_init(|| Clock::Thread) {
+        Clock::Wall => {
+            let began = Instant::now();
+            run(call, repeats);
+            began.elapsed()
+        }
+        Clock::Thread => {
+            let began = thread_time();
+            run(call, repeats);
+            thread_time() - began
+        }
+    }
+}
+
+fn run(call: &mut dyn FnMut(), repeats: usize) {
     for _ in 0..repeats {
         call();
     }
-    began.elapsed()
 }
 
-/// The clock of this thread, which stands while other programs have the core: beside them a clock on
-/// the wall would measure their work too.
-#[cfg(target_os = "linux")]
-mod clock {
-    use std::time::Duration;
-
-    /// A point in time.
-    pub struct Now(Duration);
+/// The time that this thread has had a core for.
+fn thread_time() -> Duration {
+    use std::ffi::{c_int, c_long};
 
     #[repr(C)]
     struct Timespec {
-        seconds: std::ffi::c_long,
-        nanos: std::ffi::c_long,
+        seconds: c_long,
+        nanos: c_long,
     }
-
-    const CLOCK_THREAD_CPUTIME_ID: std::ffi::c_int = 3;
-
+    const CLOCK_THREAD_CPUTIME_ID: c_int = 3;
     extern "C" {
-        fn clock_gettime(clock: std::ffi::c_int, time: *mut Timespec) -> std::ffi::c_int;
+        fn clock_gettime(clock: c_int, time: *mut Timespec) -> c_int;
     }
-
-    impl Now {
-        /// The time now.
-        pub fn now() -> Self {
-            let mut time = Timespec {
-                seconds: 0,
-                nanos: 0,
-            };
-            // SAFETY: the pointer is to a value of the C library's type, which the call fills.
-            let failed = unsafe { clock_gettime(CLOCK_THREAD_CPUTIME_ID, &mut time) };
-            assert_eq!(failed, 0, "this thread has a clock");
-            Now(Duration::new(time.seconds as u64, time.nanos as u32))
-        }
-
-        /// The time since.
-        pub fn elapsed(&self) -> Duration {
-            Now::now().0 - self.0
-        }
-    }
+    let mut time = Timespec {
+        seconds: 0,
+        nanos: 0,
+    };
+    // SAFETY: the pointer is to a value laid out as Linux has it, which the call fills.
+    let failed = unsafe { clock_gettime(CLOCK_THREAD_CPUTIME_ID, &mut time) };
+    assert_eq!(failed, 0, "this thread has a clock");
+    Duration::new(time.seconds as u64, time.nanos as u32)
 }
