@@ -5,7 +5,7 @@ ghost use Prim.Native.Nat.{ℕ, _+_, _-_, _*_, _≤_, _<_};
 ghost use lib.ListN.{length, drop, getD};
 ghost use Rattle.tree.specs.Rules.{zeros, bytes, zeroFilled, goodName};
 ghost use Rattle.row.specs.Table.{rowAt, name, depth};
-ghost use Rattle.rules.specs.Rules.{before, depthRule, kindRule, ascends, okRow, checked};
+ghost use Rattle.rules.specs.Rules.{before, lowBytes, depthRule, kindRule, ascends, okRow, checked};
 ghost use Rattle.rules.specs.Refusal.{refusalOf};
 ghost use Rattle.rules.specs.Faults.{firstRefusal, unless, roomRule};
 ghost use Rattle.rules.specs.Contract.{CheckContract};
@@ -68,19 +68,33 @@ fn byte_at(s: &[u32], k: usize) -> u32
     byte_of(s[k / 4], k % 4)
 }
 
-// Whether the bytes of a name are zero from one on.
+// The bytes of a word from byte j on, as a number.
+fn low_bytes(x: u32, j: usize) -> u32
+    requires { ⌜ j < 4 ⌝ }
+    ensures { λ r. ⌜ r ≡ lowBytes x j ⌝ }
+{
+    if j == 0 {
+        return x;
+    }
+    if j == 1 {
+        return x % 16777216;
+    }
+    if j == 2 {
+        return x % 65536;
+    }
+    x % 256
+}
+
+// Whether the bytes of a name are zero from one on: those of its word, and the words after that.
 fn zeros_from(s: &[u32], from: usize) -> bool
-    requires { ⌜ (length (now s) ≡ 8) × (from ≤ 32) ⌝ }
+    requires { ⌜ (length (now s) ≡ 8) × (from < 32) ⌝ }
     ensures { λ r. ⌜ r ≡ zeros (drop from (bytes (now (s .entry)))) ⌝ }
 {
-    let mut k = from;
-    while k < 32 {
-        if byte_at(s, k) != 0 {
-            return false;
-        }
-        k += 1;
+    let i = from / 4;
+    if low_bytes(s[i], from % 4) == 0 {
+        return all_zero(&s[i + 1..]);
     }
-    true
+    false
 }
 
 // Whether a name has no byte 47, and no zero byte before one that is not zero.
@@ -92,7 +106,7 @@ fn zero_filled(s: &[u32]) -> bool
     while k < 32 {
         let b = byte_at(s, k);
         if b == 0 {
-            return zeros_from(s, k + 1);
+            return zeros_from(s, k);
         }
         if b == 47 {
             return false;

@@ -5,7 +5,7 @@ use lib.ListN.{length, drop}
 use Prim.Native.Nat.{_-_, _≤_}
 use borrow.Author.Needs.{needs}
 use Rattle.tree.specs.Rules.{zeroFilled, bytes}
-use Rattle.rules.proofs.Words.{filled-zero, filled-slash, filled-next, filled-end, length-bytes}
+use Rattle.rules.proofs.Words.{zeros-next, filled-zero, filled-slash, filled-next, filled-end, length-bytes}
 use Rattle.rules.proofs.zero_filled.Statement.{statement}
 use Rattle.rules.proofs.zero_filled.Tie as tie
 
@@ -22,8 +22,8 @@ returns : tie.Need-returns Inv-loop μ-loop
 returns c =
     let l = c .before .before .before .before in
     let w = bytes (l .before .before .args .s .now) in
-    c .zeros-from .ensures
-    ∙ sym (l .loop .inv .2 ∙ filled-zero w (l .loop .k) (search needs) (sym (c .before .before .byte-at .ensures) ∙ c .before .if1 .taken))
+    let z = sym (c .before .before .byte-at .ensures) ∙ c .before .if1 .taken in
+    c .zeros-from .ensures ∙ zeros-next w (l .loop .k) (search needs) z ∙ sym (l .loop .inv .2 ∙ filled-zero w (l .loop .k) (search needs) z)
 
 returns-2 : tie.Need-returns-2 Inv-loop μ-loop
 returns-2 c =
@@ -52,7 +52,6 @@ zero-filled-spec =
     μ-loop
     loop-holds
     (λ c κs. search needs)
-    (λ c. search needs)
     (λ c κs. search needs)
     returns
     returns-2

@@ -1,51 +1,45 @@
--- `rules::zeros_from` meets its contract: the bytes up to byte k are zero.
-use mathlib.Core.Path.{_≡_, refl, sym, _∙_}
+-- `zeros_from` meets its contract: the rest of the word, and the words after it.
+use mathlib.Core.Path.{_≡_, sym, _∙_}
+use lib.ListN.{length, take, drop, length-drop}
+use lib.Seq.{take-all}
+use Prim.Native.Nat.{_+_, _-_, _/_}
+use borrow.Author.Tests.{ne-eqb}
+use Rattle.rules.proofs.Words.{zeros-low}
 use native.Mathlib.Omega.{arith}
-use lib.ListN.{length, drop}
-use Prim.Native.Nat.{_-_, _≤_}
 use borrow.Author.Needs.{needs}
-use Rattle.tree.specs.Rules.{zeros, bytes}
-use Rattle.rules.proofs.Words.{zeros-next, zeros-not, zeros-end, length-bytes}
 use Rattle.rules.proofs.zeros_from.Statement.{statement}
 use Rattle.rules.proofs.zeros_from.Tie as tie
 
-abbrev Inv-loop : tie.InvT-loop
-Inv-loop s from k₀ k = (k ≤ 32) × (length (bytes s) ≡ 32) × (zeros (drop from (bytes s)) ≡ zeros (drop k (bytes s)))
-
-abbrev μ-loop : tie.MeasureT-loop
-μ-loop s from k₀ k = 32 - k
-
-loop-holds : tie.Need-loop-holds Inv-loop μ-loop
-loop-holds c = (search needs, omega (arith, length-bytes (c .before .args .s .now)), refl)
-
-returns : tie.Need-returns Inv-loop μ-loop
+returns : tie.Need-returns
 returns c =
-    let l = c .before .before .before in
-    let w = bytes (l .before .before .args .s .now) in
-    sym (l .loop .inv .2 ∙ zeros-not w (l .loop .k) (search needs) (λ e. c .if1 .taken (c .before .byte-at .ensures ∙ e)))
+    let s = c .before .before .before .before .before .before in
+    let w = s .args .s .now in
+    let k = s .args .from in
+    let l = s .pre .0 in
+    let h = s .pre .1 in
+    let z = sym (c .before .before .before .low-bytes .ensures) ∙ c .before .before .if1 .taken in
+    let r : take (length w - (k / 4 + 1)) (drop (k / 4 + 1) w) ≡ drop (k / 4 + 1) w = take-all (length w - (k / 4 + 1)) (drop (k / 4 + 1) w) (omega (arith, length-drop (k / 4 + 1) w)) in
+    c .all-zero .ensures ∙ rw (zeros-low w k (omega arith), z, r)
 
-loop-again : tie.Need-loop-again Inv-loop μ-loop
-loop-again c =
-    let l = c .before .before .before in
-    let w = bytes (l .before .before .args .s .now) in
-    (search needs, search needs, l .loop .inv .2 ∙ zeros-next w (l .loop .k) (search needs) (sym (c .before .byte-at .ensures) ∙ c .if1 .left))
-
-returns-2 : tie.Need-returns-2 Inv-loop μ-loop
+returns-2 : tie.Need-returns-2
 returns-2 c =
-    let l = c .before in
-    let w = bytes (l .before .before .args .s .now) in
-    sym (l .loop .inv .2 ∙ zeros-end w (l .loop .k) (search needs))
+    let s = c .before .before .before .before in
+    let h = s .pre .1 in
+    let l = s .pre .0 in
+    sym (zeros-low (s .args .s .now) (s .args .from) (omega arith) ∙ rw (ne-eqb _ 0 (λ e. c .if1 .left (c .before .low-bytes .ensures ∙ e))))
 
 pub zeros-from-spec : {M : Type 1} → statement M
 zeros-from-spec =
     tie.close
     (tie.spec
-    Inv-loop
-    μ-loop
-    loop-holds
+    (λ c. search needs)
+    (λ c. search needs)
+    (λ c κs. search needs)
+    (λ c. search needs)
+    (λ c. search needs)
+    (λ c. search needs)
+    (λ c. search needs)
+    (λ c. search needs)
     (λ c κs. search needs)
     returns
-    (λ c. search needs)
-    (λ c. search needs)
-    loop-again
     returns-2)
