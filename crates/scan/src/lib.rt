@@ -1,13 +1,51 @@
 // The lines of a text and the words of a line, as places in it.
 ghost use mathlib.Core.Path.{_≡_};
-ghost use Prim.Native.Nat.{ℕ, _+_, _≤_, _<_};
+ghost use Prim.Native.Nat.{_+_, _≤_, _<_};
 ghost use lib.Dec.{eqb};
 ghost use lib.ListN.{length, drop, getD};
 ghost use Rattle.tree.specs.Same.{sameWords};
+ghost use Rattle.listing.specs.Bytes.{classOf};
 ghost use Rattle.listing.specs.Lines.{lenIn};
 ghost use Rattle.listing.specs.Words.{blank, span, isRefused, isText};
-ghost use Rattle.listing.specs.declared.Mode.the-variants.{Lead};
-ghost use Rattle.scan.specs.Places.{skip, lineEnds, Counted};
+ghost use Rattle.listing.specs.declared.Mode.the-variants.{Lead, Body};
+ghost use Rattle.scan.specs.Places.{skip, isBody, lineEnds, Counted};
+
+// A word has begun, and no backslash stands right before.
+fn in_body(m: listing::Mode) -> bool
+    ensures { λ r. ⌜ r ≡ isBody m ⌝ }
+{
+    match m {
+        listing::Mode::Body => true,
+        listing::Mode::Lead => false,
+        listing::Mode::LeadBack => false,
+        listing::Mode::BodyBack => false,
+        listing::Mode::Comment => false,
+        listing::Mode::Done => false,
+    }
+}
+
+// The end of a logical line in which a word has begun: LF ends it, but not right after a backslash.
+fn body_end(text: &[u8], from: usize) -> usize
+    requires { ⌜ from ≤ length (now text) ⌝ }
+    ensures { λ r. ⌜ Counted (now (text .entry)) (from + lenIn Body (drop from (now (text .entry)))) r ⌝ }
+{
+    let mut back = false;
+    let mut i = from;
+    while i < text.len() {
+        let b = text[i];
+        i += 1;
+        if b == 10 {
+            if back {
+                back = false;
+            } else {
+                return i;
+            }
+        } else {
+            back = b == 92;
+        }
+    }
+    i
+}
 
 // The end of the logical line that begins at from.
 pub fn line_end(text: &[u8], from: usize) -> usize
@@ -21,6 +59,9 @@ pub fn line_end(text: &[u8], from: usize) -> usize
         i += 1;
         if listing::ended(m) {
             return i;
+        }
+        if in_body(m) {
+            return body_end(text, i);
         }
     }
     i
@@ -51,13 +92,18 @@ fn lf_at(line: &[u8], i: usize) -> bool
     false
 }
 
-// The byte at place i parts words.
+// The byte at place i parts words; most are above 32 and don't.
 pub fn blank_at(line: &[u8], i: usize) -> bool
     requires { ⌜ i < length (now line) ⌝ }
     ensures { λ r. ⌜ r ≡ blank (getD (now (line .entry)) i 0) (drop (i + 1) (now (line .entry))) ⌝ }
 {
-    let c = listing::sort_byte(line[i]);
-    match c {
+    let b = line[i];
+    if 32 < b {
+        if b != 92 {
+            return false;
+        }
+    }
+    match listing::sort_byte(b) {
         listing::Class::Blank => true,
         listing::Class::LineEnd => true,
         listing::Class::Escape => lf_at(line, i + 1),
@@ -99,19 +145,20 @@ pub fn word_end(line: &[u8], from: usize) -> usize
     i
 }
 
-// The class of number 7.
-fn refused(c: listing::Class) -> bool
-    ensures { λ r. ⌜ r ≡ isRefused c ⌝ }
+// A byte of number 7.
+fn refused(b: u8) -> bool
+    ensures { λ r. ⌜ r ≡ isRefused (classOf b) ⌝ }
 {
-    match c {
-        listing::Class::Refused => true,
-        listing::Class::Plain => false,
-        listing::Class::Escape => false,
-        listing::Class::Blank => false,
-        listing::Class::LineEnd => false,
-        listing::Class::Hash => false,
-        listing::Class::Mark => false,
+    if 126 < b {
+        return true;
     }
+    if 31 < b {
+        return false;
+    }
+    if b == 9 {
+        return false;
+    }
+    b != 10
 }
 
 // No byte of a line is due number 7.
@@ -120,7 +167,7 @@ pub fn all_text(line: &[u8]) -> bool
 {
     let mut i = 0;
     while i < line.len() {
-        if refused(listing::sort_byte(line[i])) {
+        if refused(line[i]) {
             return false;
         }
         i += 1;

@@ -19,15 +19,15 @@ loop-holds c = (search needs, refl)
 
 returns : tie.Need-returns Inv-loop μ-loop
 returns c =
-    let l = c .before .before .before .before .before in
-    let q = text-at (l .before .before .args .line .now) (l .loop .i) (c .before .before .before .before .loop-test .taken) in
-    sym (l .loop .inv .1 ∙ rw (← c .before .before .sort-byte .ensures, ← c .before .refused .ensures, c .if1 .taken) at q)
+    let l = c .before .before .before .before in
+    let q = text-at (l .before .before .args .line .now) (l .loop .i) (c .before .before .before .loop-test .taken) in
+    sym (l .loop .inv .1 ∙ rw (← c .before .refused .ensures, c .if1 .taken) at q)
 
 loop-again : tie.Need-loop-again Inv-loop μ-loop
 loop-again c =
-    let l = c .before .before .before .before .before in
-    let q = text-at (l .before .before .args .line .now) (l .loop .i) (c .before .before .before .before .loop-test .taken) in
-    (search needs, l .loop .inv .1 ∙ rw (← c .before .before .sort-byte .ensures, ← c .before .refused .ensures, c .if1 .left) at q)
+    let l = c .before .before .before .before in
+    let q = text-at (l .before .before .args .line .now) (l .loop .i) (c .before .before .before .loop-test .taken) in
+    (search needs, l .loop .inv .1 ∙ rw (← c .before .refused .ensures, c .if1 .left) at q)
 
 returns-2 : tie.Need-returns-2 Inv-loop μ-loop
 unfolding isText
@@ -43,7 +43,6 @@ all-text-spec =
     μ-loop
     loop-holds
     (λ c. search needs)
-    (λ c κs. search needs)
     (λ c κs. search needs)
     returns
     (λ c. search needs)
