@@ -8,8 +8,8 @@ ghost use Rattle.listing.specs.Reading.{mostRows};
 ghost use Rattle.reader.specs.State.{Ready};
 ghost use Rattle.reader.specs.Does.{Fresh, InForce, Sets, Leaves, Roots, IsContent, entered, Places};
 
-// For each open folder its default type (0 none, 1 dir, 2 file) and its row. An entry that is listed now has the depth
-// depth; 0 where no folder is open. The row last put into the folder last opened, or that folder's own; the rows so far.
+// For each open folder its default type (0 none, 1 dir, 2 file) and its row; the depth that an entry listed now has, 0 where
+// no folder is open; the row last put into the folder last opened, or that folder's own; and the rows so far.
 pub struct Reader {
     pub defaults: [u8; 17],
     pub folders: [usize; 17],
