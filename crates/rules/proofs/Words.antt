@@ -11,7 +11,7 @@ use Prim.Native.Nat.{ℕ, zero, suc, _+_, _*_, _/_, _%_, _≤_, _<_}
 use lib.Dec.{eqb}
 use borrow.Author.Tests.{eq-eqb, eqb-true, ne-eqb}
 use Rattle.tree.specs.Rules.{zeros, bytes, zeroFilled}
-use Rattle.rules.specs.Rules.{lowBytes}
+use Rattle.rules.specs.Low.{lowBytes}
 
 module _ (s : List ℕ) (k : ℕ) where
   pub zeros-next : k < length s → getD s k 0 ≡ 0 → zeros (drop k s) ≡ zeros (drop (k + 1) s)

@@ -4,3 +4,4 @@ pub mod Answer
 pub mod Refusal
 pub mod Contract
 pub mod Faults
+pub mod Low

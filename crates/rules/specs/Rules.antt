@@ -50,7 +50,3 @@ checked w = cond (sized w) (cond (ltb (lead [] (rows w)) (length w / 20)) (BadRo
 unfoldable pub before : List ℕ → ℕ → List Row
 before w zero = []
 before w (suc i) = rowAt w i ∷ before w i
-
--- the bytes of a word from byte j on, as a number
-unfoldable pub lowBytes : ℕ → ℕ → ℕ
-lowBytes x j = cond (eqb j 0) x (cond (eqb j 1) (x % 16777216) (cond (eqb j 2) (x % 65536) (x % 256)))

@@ -5,7 +5,8 @@ ghost use Prim.Native.Nat.{ℕ, _+_, _-_, _*_, _≤_, _<_};
 ghost use lib.ListN.{length, drop, getD};
 ghost use Rattle.tree.specs.Rules.{zeros, bytes, zeroFilled, goodName};
 ghost use Rattle.row.specs.Table.{rowAt, name, depth};
-ghost use Rattle.rules.specs.Rules.{before, lowBytes, depthRule, kindRule, ascends, okRow, checked};
+ghost use Rattle.rules.specs.Rules.{before, depthRule, kindRule, ascends, okRow, checked};
+ghost use Rattle.rules.specs.Low.{lowBytes};
 ghost use Rattle.rules.specs.Refusal.{refusalOf};
 ghost use Rattle.rules.specs.Faults.{firstRefusal, unless, roomRule};
 ghost use Rattle.rules.specs.Contract.{CheckContract};
@@ -60,14 +61,6 @@ fn byte_of(x: u32, j: usize) -> u32
     x % 256
 }
 
-// Byte k of the words s.
-fn byte_at(s: &[u32], k: usize) -> u32
-    requires { ⌜ k < 4 * length (now s) ⌝ }
-    ensures { λ r. ⌜ r ≡ getD (bytes (now (s .entry))) k 0 ⌝ }
-{
-    byte_of(s[k / 4], k % 4)
-}
-
 // The bytes of a word from byte j on, as a number.
 fn low_bytes(x: u32, j: usize) -> u32
     requires { ⌜ j < 4 ⌝ }
@@ -104,7 +97,7 @@ fn zero_filled(s: &[u32]) -> bool
 {
     let mut k = 0;
     while k < 32 {
-        let b = byte_at(s, k);
+        let b = byte_of(s[k / 4], k % 4);
         if b == 0 {
             return zeros_from(s, k);
         }

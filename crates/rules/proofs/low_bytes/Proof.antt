@@ -1,6 +1,6 @@
 -- `low_bytes` meets its contract, byte by byte.
 use borrow.Author.Tests.{ne-eqb}
-use Rattle.rules.specs.Rules.{lowBytes}
+use Rattle.rules.specs.Low.{lowBytes}
 use Rattle.rules.proofs.low_bytes.Statement.{statement}
 use Rattle.rules.proofs.low_bytes.Tie as tie
 

@@ -1,11 +1,11 @@
 -- `rules::zero_filled` meets its contract: byte k decides, or the bytes after it.
 use mathlib.Core.Path.{_≡_, refl, sym, _∙_}
 use native.Mathlib.Omega.{arith}
-use lib.ListN.{length, drop}
+use lib.ListN.{length, drop, getD}
 use Prim.Native.Nat.{_-_, _≤_}
 use borrow.Author.Needs.{needs}
 use Rattle.tree.specs.Rules.{zeroFilled, bytes}
-use Rattle.rules.proofs.Words.{zeros-next, filled-zero, filled-slash, filled-next, filled-end, length-bytes}
+use Rattle.rules.proofs.Words.{byte-is, zeros-next, filled-zero, filled-slash, filled-next, filled-end, length-bytes}
 use Rattle.rules.proofs.zero_filled.Statement.{statement}
 use Rattle.rules.proofs.zero_filled.Tie as tie
 
@@ -18,24 +18,33 @@ abbrev μ-loop : tie.MeasureT-loop
 loop-holds : tie.Need-loop-holds Inv-loop μ-loop
 loop-holds c = (search needs, omega (arith, length-bytes (c .before .args .s .now)), refl)
 
+-- byte k, by its word
+byte : (c : tie.After-byte-of Inv-loop μ-loop) → c .byte-of .result ≡ getD (bytes (c .before .before .before .before .before .args .s .now)) (c .before .before .before .loop .k) 0
+byte c =
+    let l = c .before .before .before in
+    let s = l .before .before in
+    let h = s .pre in
+    let q = c .before .before .loop-test .taken in
+    c .byte-of .ensures ∙ byte-is (s .args .s .now) (l .loop .k) (omega arith)
+
 returns : tie.Need-returns Inv-loop μ-loop
 returns c =
-    let l = c .before .before .before .before in
+    let l = c .before .before .before .before .before in
     let w = bytes (l .before .before .args .s .now) in
-    let z = sym (c .before .before .byte-at .ensures) ∙ c .before .if1 .taken in
+    let z = sym (byte (c .before .before)) ∙ c .before .if1 .taken in
     c .zeros-from .ensures ∙ zeros-next w (l .loop .k) (search needs) z ∙ sym (l .loop .inv .2 ∙ filled-zero w (l .loop .k) (search needs) z)
 
 returns-2 : tie.Need-returns-2 Inv-loop μ-loop
 returns-2 c =
-    let l = c .before .before .before .before in
+    let l = c .before .before .before .before .before in
     let w = bytes (l .before .before .args .s .now) in
-    sym (l .loop .inv .2 ∙ filled-slash w (l .loop .k) (search needs) (sym (c .before .before .byte-at .ensures) ∙ c .if2 .taken))
+    sym (l .loop .inv .2 ∙ filled-slash w (l .loop .k) (search needs) (sym (byte (c .before .before)) ∙ c .if2 .taken))
 
 loop-again : tie.Need-loop-again Inv-loop μ-loop
 loop-again c =
-    let l = c .before .before .before .before in
+    let l = c .before .before .before .before .before in
     let w = bytes (l .before .before .args .s .now) in
-    let b = c .before .before .byte-at .ensures in
+    let b = byte (c .before .before) in
     (search needs, search needs, l .loop .inv .2 ∙ filled-next w (l .loop .k) (search needs) (λ e. c .before .if1 .left (b ∙ e)) (λ e. c .if2 .left (b ∙ e)))
 
 returns-3 : tie.Need-returns-3 Inv-loop μ-loop
@@ -51,6 +60,8 @@ zero-filled-spec =
     Inv-loop
     μ-loop
     loop-holds
+    (λ c. search needs)
+    (λ c. search needs)
     (λ c κs. search needs)
     (λ c κs. search needs)
     returns
