@@ -15,10 +15,11 @@ use Rattle.rules.specs.Answer.{isAccepted}
 use Rattle.plan.specs.Items.{listWords}
 use Rattle.reconcile.specs.Run.{given, Lent, runDue, runOf}
 use Rattle.settle.proofs.Resume.{resumes}
+use Rattle.settle.proofs.Finish.{finishes}
 use Rattle.settle.proofs.Close.{closes}
 use Rattle.settle.proofs.Rules.{well-formed-left, well-formed-right, well-formed-archive}
 use Rattle.reconcile.proofs.Accepted.{Room, Passed, passed, accepted}
-use Rattle.demands.specs.Demand3.{AsMuch, Reruns, Closing}
+use Rattle.demands.specs.Demand3.{AsMuch, Reruns, Finishing, Closing}
 use Rattle.demands.proofs.Tab.{Tab, tab-tree, tab-fine, fine-tab, formed-tab}
 use Rattle.demands.proofs.Made.{carried-all}
 
@@ -81,6 +82,16 @@ module _ (o l r : List ℕ) (b : Lent) (wo : Words32 o) (wl : Words32 l) (wr : W
         archive = rw due (ap (λ (u : Outcome). over (c .archive) (table (u .archive))) same);
         left = rw due (ap (λ (u : Outcome). over (c .left) (table (u .left))) same);
         right = rw due (ap (λ (u : Outcome). over (c .right) (table (u .right))) same);
+      }
+
+  pub finishing : Finishing o l r
+  finishing ms t chosen carried all =
+      let s : Sides = record { left = treeOf l; right = treeOf r } in
+      let B = carried-all ms (record { left = l; right = r }) t s carried (record { left = tl; right = tr }) in
+      let e = finishes ms (treeOf o) (treeOf l) (treeOf r) (to .formed .sorted) (tl .formed .sorted) (tr .formed .sorted) chosen all in
+      record {
+        left = B .left .is ∙ ap (λ (x : Sides). table (x .left)) e;
+        right = B .right .is ∙ ap (λ (x : Sides). table (x .right)) e;
       }
 
   pub closing : (c : Lent) → AsMuch b c → Closing o l r c

@@ -1,5 +1,5 @@
--- Demand 3 over calls: listed moves carried out by accepted calls, in any order; then a run with the old archive; and the
--- run on the results.
+-- Demand 3 over calls: listed moves carried out by accepted calls, in any order; then a run with the old archive; the
+-- tables after all the moves; and the run on the results.
 use mathlib.Core.Path.{_≡_}
 use mathlib.Core.List.{List, [], _∷_}
 use mathlib.Core.Bool.{true}
@@ -65,6 +65,16 @@ pub record Rerun (o l r : List ℕ) (ms : Lines) (t : Tables) (c : Lent) : Type 
 
 abbrev pub Reruns : List ℕ → List ℕ → List ℕ → Lent → Type 0
 Reruns o l r b = (ms : Lines) (t : Tables) (c : Lent) → Chosen ms (given o l r .lines) → AllCarried ms (record { left = l; right = r }) t → AsMuch b c → Rerun o l r ms t c
+
+-- where all the moves were made, and only the clashes are left, the two tables are those of the new trees
+pub record Finished (o l r : List ℕ) (t : Tables) : Type 0 where
+  pub left : t .left ≡ table (given o l r .left)
+  pub right : t .right ≡ table (given o l r .right)
+
+abbrev pub Finishing : List ℕ → List ℕ → List ℕ → Type 0
+Finishing o l r =
+    (ms : Lines) (t : Tables) → Chosen ms (given o l r .lines) → AllCarried ms (record { left = l; right = r }) t
+    → minus ms (given o l r .lines) ≡ keep isClash (given o l r .lines) → Finished o l r t
 
 -- the run on the results
 pub record Closing (o l r : List ℕ) (c : Lent) : Type 0 where

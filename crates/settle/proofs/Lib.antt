@@ -18,6 +18,7 @@ pub mod Step
 pub mod Move
 pub mod Resume
 pub mod Close
+pub mod Finish
 pub mod Distinct
 pub mod Rules
 pub mod Merge

@@ -1,12 +1,15 @@
 -- What stands on a list: membership, taken apart along the names; the list without a path.
-use mathlib.Core.Bool.{false, true}
+use mathlib.Core.Bool.{Bool, false, true, _||_}
 use mathlib.Core.List.{[], _++_, _∷_, map}
 use mathlib.Core.Logic.{_⊎_, inl, inr}
-use mathlib.Core.Path.{_∙_, _≡_, ap, sym}
-use Rattle.tree.specs.Name.{Name}
+use mathlib.Core.Path.{_∙_, _≡_, ap, refl, sym}
+use lib.Dec.{isEq}
+use Prim.Native.Nat.{Ordering, Ordering·lt, Ordering·eq, Ordering·gt}
+use Rattle.tree.specs.Name.{Name, cmp}
 use Rattle.tree.specs.Forest.{TreePath, Forest, Node, find}
 use Rattle.tree.specs.Same.{sameWords}
 use Rattle.tree.proofs.Never.{never}
+use Rattle.tree.proofs.Order.{cmp-eq}
 use Rattle.tree.proofs.Same.{sameWords-refl}
 use Rattle.settle.specs.Decision.{Decision, Decision.agreed, Decision.clash, Decision.leftGets, Decision.rightGets, decide}
 use Rattle.settle.specs.Names.{Names, names}
@@ -14,7 +17,8 @@ use Rattle.settle.specs.Plan.{plan, settle}
 use Rattle.settle.specs.Results.{Line, Line.line, Lines, lineOf, list, under}
 use Rattle.settle.specs.Resume.{In, elsewhere, keep, samePath}
 use Rattle.settle.proofs.Induct.{NotBoth, settle-single}
-use Rattle.settle.proofs.Lines.{gather, keep-all, keep-cong, keep-under, linesAt, linesOf, list-plan}
+use Rattle.settle.proofs.Lines.{gather, keep-all, keep-cong, keep-under, linesAt, linesAt-out, linesOf, list-plan}
+use Rattle.settle.proofs.Names.{has}
 
 in-append : (x : Line) (a b : Lines) → In x (a ++ b) → In x a ⊎ In x b
 unfolding In
@@ -61,6 +65,43 @@ in-plan-cons n p d o l r h = go (in-plan (n ∷ p) d o l r h)
     go (m, q, e, i) =
         let a : n ≡ m = cc in let b : p ≡ q = cc in
         rw (a, b) i
+
+in-left : (x : Line) (a b : Lines) → In x a → In x (a ++ b)
+unfolding In
+in-left x [] b h = absurd h
+in-left x (y ∷ ys) b (inl e) = inl e
+in-left x (y ∷ ys) b (inr h) = inr (in-left x ys b h)
+
+in-right : (x : Line) (a b : Lines) → In x b → In x (a ++ b)
+unfolding In
+in-right x [] b h = h
+in-right x (y ∷ ys) b h = inr (in-right x ys b h)
+
+gather-in : (x : Line) (n : Name) (ns : Names) (g : Name → Lines) → has n ns ≡ true → In x (g n) → In x (gather ns g)
+unfolding gather has
+gather-in x n [] g e h = never (cc)
+gather-in x n (m ∷ ms) g e h = go (cmp n m) refl e (λ t. gather-in x n ms g t h)
+  where
+    go : (w : Ordering) → cmp n m ≡ w → (isEq w || has n ms) ≡ true → (has n ms ≡ true → In x (gather ms g)) → In x (g m ++ gather ms g)
+    go Ordering·lt q t ih = in-right x (g m) (gather ms g) (ih t)
+    go Ordering·eq q t ih = in-left x (g m) (gather ms g) (rw (cmp-eq n m q) at h)
+    go Ordering·gt q t ih = in-right x (g m) (gather ms g) (ih t)
+
+under-in : (p : TreePath) (d : Decision) (n : Name) (xs : Lines) → In (line p d) xs → In (line (n ∷ p) d) (map (under n) xs)
+unfolding In
+under-in p d n [] h = absurd h
+under-in p d n (x ∷ xs) (inl e) = inl (ap (under n) e)
+under-in p d n (x ∷ xs) (inr h) = inr (under-in p d n xs h)
+
+-- what stands at a name is on the list
+pub plan-in : (n : Name) (p : TreePath) (d : Decision) (o l r : Forest) → In (line p d) (linesOf (settle (find n o) (find n l) (find n r)))
+    → In (line (n ∷ p) d) (list (plan o l r))
+unfolding In
+plan-in n p d o l r h = rw (list-plan o l r) (go (has n (names o l r)) refl (under-in p d n (linesOf (settle (find n o) (find n l) (find n r))) h))
+  where
+    go : (t : Bool) → has n (names o l r) ≡ t → In (line (n ∷ p) d) (linesAt o l r n) → In (line (n ∷ p) d) (gather (names o l r) (linesAt o l r))
+    go true e i = gather-in (line (n ∷ p) d) n (names o l r) (linesAt o l r) e i
+    go false e i = absurd (rw (linesAt-out o l r n e) at i)
 
 pub in-lineOf : (p q : TreePath) (d e : Decision) → In (line p d) (lineOf q e) → (p ≡ q) × (d ≡ e)
 unfolding In

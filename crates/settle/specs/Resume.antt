@@ -1,6 +1,6 @@
 -- Demand 3 on trees: listed moves carried out in any order, then a run with the old archive; and the closing run.
 use mathlib.Core.Path.{_≡_}
-use mathlib.Core.List.{List, [], _∷_}
+use mathlib.Core.List.{[], _∷_}
 use mathlib.Core.Logic.{_⊎_}
 use mathlib.Core.Bool.{Bool, true, false, _&&_, not}
 use Rattle.tree.specs.Forest.{TreePath, Forest, Node.folder, kids, at}
@@ -87,6 +87,12 @@ isClash (line p agreed) = false
 isClash (line p leftGets) = false
 isClash (line p rightGets) = false
 isClash (line p clash) = true
+
+-- where the moves ms leave only the clashes, the two sides have become the new trees
+abbrev pub Finishes : Lines → Forest → Forest → Forest → Type 0
+Finishes ms o l r =
+    minus ms (list (plan o l r)) ≡ keep isClash (list (plan o l r))
+    → after ms (record { left = l; right = r }) ≡ record { left = newLeft o l r; right = newRight o l r }
 
 -- a run on the results lists the clashes, no moves, and alters no tree
 abbrev pub Closes : Forest → Forest → Forest → Type 0
