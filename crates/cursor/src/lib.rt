@@ -1,6 +1,6 @@
 // Three tables looked at through a row number of each: the next entry, the entries of the least name, the decision there.
 ghost use mathlib.Core.Path.{_≡_};
-ghost use Prim.Native.Nat.{ℕ, _+_, _*_, _%_, _≤_};
+ghost use Prim.Native.Nat.{_+_, _*_, _%_, _≤_};
 ghost use lib.ListN.{length};
 ghost use Rattle.cursor.specs.Cursor.{isRow, from, orderAt, notAfter, keep, turned, least, behind, isFolder, decision};
 

@@ -10,7 +10,7 @@ use Prim.Native.Nat.{ℕ, suc, _*_, _/_, _≤_}
 use borrow.Author.Tests.{leb-true}
 use Rattle.tree.specs.Name.{Name}
 use Rattle.tree.specs.Forest.{TreePath, Forest, size}
-use Rattle.tree.specs.Rules.{NameRule, ContentRule}
+use Rattle.tree.specs.Rules.{NameRule, AllNames}
 use Rattle.settle.specs.Decision.{Decision.agreed, Decision.leftGets, Decision.rightGets, Decision.clash}
 use Rattle.settle.specs.Results.{Line.line, Lines}
 use Rattle.settle.specs.Resume.{Sides, moved, after}
@@ -23,7 +23,6 @@ use Rattle.moves.specs.Path.{Eights, pathOf, slots, pathRule}
 use Rattle.rules.specs.Faults.{unless, roomRule}
 use Rattle.moves.specs.Move.{parentRule, movedWords, moveDue}
 use Rattle.tree.proofs.Same.{and-true}
-use Rattle.tree.proofs.Rules.{NamesOf}
 use Rattle.settle.proofs.Rules.{well-formed-moved}
 use Rattle.row.proofs.Tree.{length-table}
 use Rattle.rules.proofs.Faults.{first-passed, first-last, unless-true, room-parts}
@@ -33,7 +32,7 @@ use Rattle.demands.proofs.Tab.{Tab, tab-tree}
 
 -- a path that passed keeps the rules
 path-ruled : (names : List Name) (depth : ℕ) → Eights names → pathRule names depth ≡ true
-    → NamesOf NameRule ContentRule (pathOf names depth) × (length (pathOf names depth) ≤ 16)
+    → AllNames NameRule (pathOf names depth) × (length (pathOf names depth) ≤ 16)
 unfolding pathRule
 path-ruled names depth s h =
     let a = and-true (leb 1 depth && leb depth 16) (slots depth names) h in

@@ -1,6 +1,6 @@
 // Where things stand in a tree table: the end of a subtree, an entry of a folder, an entry's place.
 ghost use mathlib.Core.Path.{_≡_};
-ghost use Prim.Native.Nat.{ℕ, _+_, _*_, _%_, _≤_};
+ghost use Prim.Native.Nat.{_+_, _*_, _%_, _≤_};
 ghost use lib.ListN.{length};
 ghost use Rattle.tree.specs.Same.{sameWords};
 ghost use Rattle.row.specs.Table.{rowAt, name as nameOf};

@@ -11,7 +11,7 @@ use Rattle.find.specs.declared.Found.{Found}
 use Rattle.find.specs.declared.Found.the-variants.{At, Nothing}
 use Rattle.find.specs.Subtree.{endOf, subtree}
 use Rattle.find.specs.Entry.{child, Inside, Finds}
-use Rattle.path.specs.Follow.{further, onward, follow}
+use Rattle.follow.specs.Follow.{further, onward, follow}
 
 pub inside-at : (w : List ℕ) (r : Found) (i : ℕ) → r ≡ At i → Inside w r → 20 * (i + 1) ≤ length w
 inside-at w r i e h = subst (Inside w) e h

@@ -1,10 +1,9 @@
 // Where a path leads in a tree table: it is followed one name at a time, in the subtree that each name gives.
 use find::Found;
-ghost use mathlib.Core.Path.{_≡_};
-ghost use Prim.Native.Nat.{ℕ, _+_, _≤_};
+ghost use Prim.Native.Nat.{_+_, _≤_};
 ghost use lib.ListN.{length, take, drop};
 ghost use Rattle.find.specs.Entry.{Finds};
-ghost use Rattle.path.specs.Follow.{follow};
+ghost use Rattle.follow.specs.Follow.{follow};
 
 // The row, in the rows t of a subtree, that n names from the one at at lead to from its own row.
 pub fn lookup(t: &[u32], names: [[u32; 8]; 16], at: usize, n: usize) -> Found

@@ -5,8 +5,8 @@ use mathlib.Core.Bool.{Bool, true, false, cond, _&&_}
 use native.Mathlib.Omega.{arith}
 use lib.Dec.{eqb}
 use lib.ListN.{length, take, drop, getD, length-take, length-drop}
-use Prim.Native.Nat.{ℕ, zero, suc, _*_, _-_, _<_, _≤_}
-use borrow.Author.Tests.{eq-eqb, eqb-true, eqb-false}
+use Prim.Native.Nat.{ℕ, zero, suc, _*_, _-_, _≤_}
+use borrow.Author.Tests.{eqb-true, eqb-false}
 use Rattle.rules.specs.declared.Checked.the-variants.{Fine}
 use Rattle.rules.specs.Rules.{checked}
 use Rattle.rules.proofs.Fine.{fine-most}

@@ -12,7 +12,7 @@ use Rattle.listing.specs.declared.Mode.the-variants.{Lead}
 use Rattle.listing.specs.Bytes.{classOf}
 use Rattle.listing.specs.Lines.{stepOf, lenIn, next, linesFrom, lines}
 use Rattle.listing.specs.Entries.{Said.none}
-use Rattle.listing.specs.Reading.{State, State.before, State.inside, State.closed, Step, Step.stops, Step.goes, ended, Outcome, Outcome.refused, Outcome.accepted, answerOf, lineDoes, onStep, run, endsInLF, mostRows, reading}
+use Rattle.listing.specs.Reading.{State, State.before, State.inside, State.closed, Step, Step.stops, Step.goes, Outcome, Outcome.refused, Outcome.accepted, answerOf, lineDoes, onStep, run, endsInLF, mostRows, reading}
 use Rattle.listing.proofs.Accepted.{accepted-fits}
 
 -- the line of a refusal

@@ -3,10 +3,10 @@ use reconcile::Reconciled;
 use rules::Answer;
 use tally::Tally;
 ghost use mathlib.Core.Path.{_≡_};
-ghost use Prim.Native.Nat.{ℕ, _<_};
+ghost use Prim.Native.Nat.{_<_};
 ghost use Rattle.rules.specs.Answer.{placeOf};
 ghost use Rattle.reconcile.specs.Run.{lent};
-ghost use Rattle.kantifero.specs.Words.{eight, answerWords, checkWords, reconciledWords, tallyWords, tallyIn, Narrow};
+ghost use Rattle.kantifero.specs.Words.{eight, answerWords, checkWords, reconciledWords, tallyIn, Narrow};
 ghost use Rattle.kantifero.specs.Calls.{ReconcileCall, MoveCall, WriteCall, ReadCall};
 ghost use Rattle.kantifero.specs.Carried.{partWords, Within, CarriedCall};
 

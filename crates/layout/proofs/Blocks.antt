@@ -6,13 +6,12 @@ use lib.ListN.{length, set, length-set}
 use lib.Seq.{set-getD, set-set}
 use Prim.Native.Nat.{ℕ, suc, _-_, _<_, _≤_}
 use Rattle.tree.specs.Name.{Name}
-use Rattle.tree.specs.Forest.{Content, Forest, Forest.end, Node, Node.absent, Node.file, Node.folder, TreePath, Sorted, SortedNode, at, find, size}
+use Rattle.tree.specs.Forest.{Content, Forest, Forest.end, Node, Node.absent, Node.file, Node.folder, TreePath, Sorted, SortedNode, at, find, size, rowCount}
 use Rattle.tree.specs.Put.{update}
 use Rattle.tree.proofs.Never.{never}
 use Rattle.tree.proofs.Put.{sorted-update}
 use Rattle.listing.specs.Entries.{Said, Said.none}
 use Rattle.listing.specs.Reading.{State, State.inside, Step, Step.stops, Step.goes, inForce, lineDoes}
-use Rattle.listing.proofs.Grown.{nodeSize}
 use Rattle.layout.specs.Blocks.{andThen, through, Sets, Enters, Closes, Block, Block.a-file, Block.a-folder, Contents.none, Contents.sets, Contents.block}
 use Rattle.layout.proofs.Known.{sets-does, closes-does, Entering, enters-does}
 use Rattle.layout.proofs.Good.{good-through}
@@ -41,7 +40,7 @@ both (goes t) k s e = record { between = t; first = refl; second = e }
 
 -- the lines put the entry n, which is x, into a folder that has none of that name
 pub record Puts (most : ℕ) (p : TreePath) (d : Said) (n : Name) (x : Node) (ls : List (List ℕ)) : Type 0 where
-  pub some : 0 < nodeSize x
+  pub some : 0 < rowCount x
   pub sorted : SortedNode x
   pub does : (k f : Forest) (ds : List Said) → In most p d k f ds → find n k ≡ absent → suc (size (fill p (update n x k) f)) ≤ most
       → through most ls (inside f p ds) ≡ goes (inside (fill p (update n x k) f) p ds)

@@ -4,14 +4,15 @@ use mathlib.Core.List.{[], _∷_, _++_}
 use native.Mathlib.Omega.{arith}
 use Prim.Native.Nat.{_+_, Ordering, Ordering·lt, Ordering·eq, Ordering·gt}
 use Rattle.tree.specs.Name.{Name, cmp}
-use Rattle.tree.specs.Forest.{Forest, Node, Node.absent, Node.file, Node.folder, TreePath, Sorted, SortedNode, at, find, kids, size}
-use Rattle.tree.specs.Put.{put, update}
+use Rattle.tree.specs.Forest.{Forest, Node, Node.absent, Node.file, Node.folder, TreePath, Sorted, SortedNode, at, find, kids, size, rowCount}
+use Rattle.tree.specs.Put.{put, update, Reaches}
 use Rattle.tree.proofs.Never.{never}
 use Rattle.tree.proofs.Order.{cmp-eq}
 use Rattle.tree.proofs.Forest.{Differ, sorted-at, sorted-find}
-use Rattle.tree.proofs.Put.{Open, put-here, find-update-same, find-update-other, sorted-update, sorted-put}
+use Rattle.tree.proofs.Put.{put-here, find-update-same, find-update-other, sorted-update, sorted-put, put-at}
 use Rattle.tree.proofs.Value.{find-ext}
-use Rattle.listing.proofs.Grown.{nodeSize, parent-last, size-put}
+use Rattle.tree.proofs.Size.{size-put}
+use Rattle.listing.proofs.Grown.{parent-last}
 
 by-name : {P : Type 0} (n k : Name) → (k ≡ n → P) → (Differ k n → P) → P
 by-name {P} n k same other = go (cmp k n) refl
@@ -30,11 +31,6 @@ module _ (f : Forest) (sf : Sorted f) (n : Name) where
       (λ k. by-name n k
       (λ e. rw (e, find-update-same n x (update n y f) s, find-update-same n x f sf))
       (λ d. rw (find-update-other n x k d (update n y f), find-update-other n y k d f, find-update-other n x k d f)))
-
-  update-same : update n (find n f) f ≡ f
-  update-same =
-      find-ext _ _ (sorted-update n (find n f) (sorted-find n f sf) f sf) sf
-      (λ k. by-name n k (λ e. rw (e, find-update-same n (find n f) f sf)) (λ d. find-update-other n (find n f) k d f))
 
   pub update-swap : (m : Name) (x y : Node) → SortedNode x → SortedNode y → Differ m n → update n x (update m y f) ≡ update m y (update n x f)
   update-swap m x y sx sy d =
@@ -63,13 +59,6 @@ put-twice (n ∷ p) x y (folder f) sx sy st =
     rw (find-update-same n (put p y z) f st, put-twice p x y z sx sy sz)
     (ap folder (update-twice f st n (put p x z) (put p y z) (sorted-put p x z sx sz) (sorted-put p y z sy sz)))
 
-put-same : (p : TreePath) (t : Node) → SortedNode t → put p (at t p) t ≡ t
-unfolding put at
-put-same [] t st = refl
-put-same (n ∷ p) absent st = refl
-put-same (n ∷ p) (file c) st = refl
-put-same (n ∷ p) (folder f) st = rw (put-same p (find n f) (sorted-find n f st)) (ap folder (update-same f st n))
-
 put-last : (p : TreePath) (n : Name) (x t : Node) (k : Forest) → at t p ≡ folder k → put (p ++ (n ∷ [])) x t ≡ put p (folder (update n x k)) t
 unfolding put at
 put-last [] n x t k e = rw e
@@ -82,8 +71,8 @@ unfolding at
 at-append [] q t = refl
 at-append (m ∷ p) q t = at-append p q (find m (kids t))
 
-parent-front : (p : TreePath) (n : Name) (t : Node) → Open (p ++ (n ∷ [])) t → Open p t
-unfolding Open
+parent-front : (p : TreePath) (n : Name) (t : Node) → Reaches (p ++ (n ∷ [])) t → Reaches p t
+unfolding Reaches
 parent-front [] n t h = tt
 parent-front (m ∷ p) n absent h = h
 parent-front (m ∷ p) n (file c) h = h
@@ -107,7 +96,7 @@ module _ {p : TreePath} {k f : Forest} (h : Has p k f) where
   pub has-sorted : Sorted k
   has-sorted = rw (h .here) at (sorted-at p (folder f) (h .sorted))
 
-  has-parent : Open p (folder f)
+  has-parent : Reaches p (folder f)
   has-parent = parent-front p [] (folder f) (parent-last p [] (folder f) (rw (h .here) tt))
 
   pub fill-has : (j : Forest) → Sorted j → Has p j (fill p j f)
@@ -123,7 +112,7 @@ module _ {p : TreePath} {k f : Forest} (h : Has p k f) where
       ap kids e
 
   pub fill-same : fill p k f ≡ f
-  fill-same = ap kids (rw (h .here) at (put-same p (folder f) (h .sorted)))
+  fill-same = ap kids (rw (h .here) at (put-at p (folder f) (h .sorted)))
 
   pub fill-last : (n : Name) (x : Node) → kids (put (p ++ (n ∷ [])) x (folder f)) ≡ fill p (update n x k) f
   fill-last n x = ap kids (put-last p n x (folder f) k (h .here))
@@ -135,4 +124,4 @@ module _ {p : TreePath} {k f : Forest} (h : Has p k f) where
   pub size-fill : (j : Forest) → size (fill p j f) + size k ≡ size f + size j
   size-fill j =
       let e = size-put p (folder j) (folder f) (h .sorted) has-parent in
-      omega (arith, ap nodeSize (folder-fill p j f), ap nodeSize (h .here))
+      omega (arith, ap rowCount (folder-fill p j f), ap rowCount (h .here))

@@ -5,7 +5,7 @@ use native.Mathlib.Omega.{arith}
 use lib.ListN.{length, length-append}
 use Prim.Native.Nat.{ℕ, suc, _≤_}
 use Rattle.tree.specs.Name.{Name}
-use Rattle.tree.specs.Forest.{Forest, Node, Node.absent, Node.file, Node.folder, TreePath, Sorted, at, find, kids, size}
+use Rattle.tree.specs.Forest.{Forest, Node, Node.absent, Node.file, Node.folder, TreePath, Sorted, at, find, kids, size, rowCount}
 use Rattle.tree.specs.Put.{update}
 use Rattle.tree.proofs.Order.{flip, cmp-eq, cmp-flip}
 use Rattle.tree.proofs.Forest.{Differ}
@@ -14,7 +14,6 @@ use Rattle.listing.specs.Accepted.{Inside, IsFolder}
 use Rattle.listing.specs.Lines.{lines}
 use Rattle.listing.specs.Entries.{Said, Said.none}
 use Rattle.listing.specs.Reading.{State, State.before, State.inside, Step.goes, Outcome.accepted, inForce, endsInLF, mostRows, reading}
-use Rattle.listing.proofs.Grown.{nodeSize}
 use Rattle.layout.specs.Whole.{pieces}
 use Rattle.layout.specs.Blocks.{through, Block}
 use Rattle.layout.specs.Order.{Neighbours, Reordered.same, Reordered.swapped, OrderChangesNothing}
@@ -50,7 +49,7 @@ module _ {most : ℕ} {p : TreePath} {k f : Forest} {ds : List Said} (i : In mos
       let x = A .node in
       let y = B .node in
       let sk = has-sorted (has i) in
-      let differ : Differ m n = λ e. (let z = ap nodeSize (rw (cmp-eq m n e, find-update-same n x k sk) at (B .free)) in omega (arith, A .puts .some)) in
+      let differ : Differ m n = λ e. (let z = ap rowCount (rw (cmp-eq m n e, find-update-same n x k sk) at (B .free)) in omega (arith, A .puts .some)) in
       let fm : find m k ≡ absent = sym (find-update-other n x m differ k) ∙ B .free in
       let fn : find n (update m y k) ≡ absent = find-update-other m y n (λ e. differ (cmp-flip n m ∙ ap flip e)) k ∙ A .free in
       let F = two-puts sk (A .puts) (B .puts) (A .free) (B .free) in

@@ -9,14 +9,14 @@ use lib.Seq.{getD-at, getD-set-same, set-at}
 use Prim.Native.Nat.{ℕ, suc, _+_, _-_, _<_}
 use borrow.Author.Tests.{lt-leb, lt-ltb, leb-false, ltb-true}
 use Rattle.tree.specs.Name.{Name}
-use Rattle.tree.specs.Forest.{Forest, Forest.end, Node, Node.absent, Node.folder, TreePath, Sorted, at, find, kids, size}
-use Rattle.tree.specs.Put.{put, update}
+use Rattle.tree.specs.Forest.{Forest, Forest.end, Node, Node.absent, Node.folder, TreePath, Sorted, at, find, kids, size, rowCount}
+use Rattle.tree.specs.Put.{put, update, Reaches}
 use Rattle.tree.proofs.Never.{never}
-use Rattle.tree.proofs.Put.{Open, find-update-same, sorted-update}
+use Rattle.tree.proofs.Put.{find-update-same, sorted-update}
+use Rattle.tree.proofs.Size.{size-put}
 use Rattle.listing.specs.Accepted.{GoodStep, Inside}
 use Rattle.listing.specs.Entries.{Said, Said.none}
 use Rattle.listing.specs.Reading.{State, State.inside, Step.stops, Step.goes, inForce, close, isAbsent, opened, placed}
-use Rattle.listing.proofs.Grown.{nodeSize, size-put}
 use Rattle.listing.proofs.Kept.{good-default}
 use Rattle.listing.proofs.Entered.{good-placed, is-absent}
 use Rattle.listing.proofs.Steps.{close-last}
@@ -42,9 +42,9 @@ in-default {most} {p} {d} {k} {f} {ds} e i =
       here = i .here;
     }
 
-pub size-new : (n : Name) (x : Node) (k : Forest) → Sorted k → find n k ≡ absent → size (update n x k) ≡ size k + nodeSize x
-unfolding put at Open
-size-new n x k sk e = omega (arith, size-put (n ∷ []) x (folder k) sk tt, ap nodeSize e)
+pub size-new : (n : Name) (x : Node) (k : Forest) → Sorted k → find n k ≡ absent → size (update n x k) ≡ size k + rowCount x
+unfolding put at Reaches
+size-new n x k sk e = omega (arith, size-put (n ∷ []) x (folder k) sk tt, ap rowCount e)
 
 -- there is a place for one row more, called n
 pub record Place (most : ℕ) (p : TreePath) (k f : Forest) (n : Name) : Type 0 where
@@ -71,7 +71,7 @@ module _ {most : ℕ} {p : TreePath} {d : Said} {k f : Forest} {ds : List Said} 
       go false true true a b c h =
           record { less = leb-false 16 (length p) a; free = sym (has-entry (has i) n) ∙ is-absent _ b; room = ltb-true (suc (size f)) most c }
 
-  pub size-placed : find n k ≡ absent → size (fill p (update n x k) f) ≡ size f + nodeSize x
+  pub size-placed : find n k ≡ absent → size (fill p (update n x k) f) ≡ size f + rowCount x
   size-placed e = omega (arith, size-fill (has i) (update n x k), size-new n x k (has-sorted (has i)) e)
 
 -- a folder that has been opened, and its default

@@ -11,11 +11,12 @@ use borrow.Author.Tests.{eq-eqb, eqb-true, le-leb, lt-ltb, ltb-true, ltb-false}
 use Rattle.tree.specs.Forest.{Content}
 use Rattle.tree.specs.Rules.{ContentRule, Words32, bytes}
 use Rattle.tree.proofs.Same.{and-true}
+use Rattle.tree.proofs.Rules.{length-bytes}
 use Rattle.listing.specs.Bytes.{classOf, digitValue}
 use Rattle.listing.specs.Names.{packed}
 use Rattle.listing.specs.Values.{contentOf, decimalFrom, digestOf, digits, hexBytes, isDigest, isSize, sizeOf}
 use Rattle.listing.specs.Writing.{decimal, digestText, hex, hexDigit, sizeText}
-use Rattle.listing.proofs.Spelling.{Small, bytes-length, bytes-small, isPlain, packed-bytes}
+use Rattle.listing.proofs.Spelling.{Small, bytes-small, isPlain, packed-bytes}
 use Rattle.listing.proofs.Table.{every, every-at}
 
 -- bytes that stand in words as they are
@@ -61,7 +62,7 @@ decimal-digits (suc k) n acc r = go (ltb n 10) refl (decimal-digits k (n / 10) (
     go true e f = let h = ltb-true n 10 e in digits-cons 10 n (48 + n) acc h (decimal-digit n h) r
     go false e f = f (digits-cons 10 (n % 10) (48 + n % 10) acc (omega arith) (decimal-digit (n % 10) (omega arith)) r)
 
-decimal-length : (k n : ℕ) (acc : List ℕ) → (length (decimal k n acc) ≤ k + length acc) × (length acc ≤ length (decimal k n acc))
+pub decimal-length : (k n : ℕ) (acc : List ℕ) → (length (decimal k n acc) ≤ k + length acc) × (length acc ≤ length (decimal k n acc))
 unfolding decimal
 decimal-length zero n acc = omega arith
 decimal-length (suc k) n acc = go (ltb n 10) (decimal-length k (n / 10) ((48 + n % 10) ∷ acc))
@@ -143,7 +144,7 @@ hex-length (b ∷ bs) = omega (arith, hex-length bs)
 digest-good : (ws : List ℕ) → length ws ≡ 8 → Words32 ws → isDigest (hex (bytes ws)) ≡ true
 unfolding isDigest
 digest-good ws e w =
-    let l : length (hex (bytes ws)) ≡ 64 = omega (arith, hex-length (bytes ws), bytes-length ws) in
+    let l : length (hex (bytes ws)) ≡ 64 = omega (arith, hex-length (bytes ws), length-bytes ws) in
     rw (eq-eqb _ 64 l, hex-digits (bytes ws) (bytes-small ws w) .good)
 
 digest-back : (ws : List ℕ) → length ws ≡ 8 → Words32 ws → digestOf (hex (bytes ws)) ≡ ws

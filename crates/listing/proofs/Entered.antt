@@ -8,19 +8,21 @@ use lib.ListN.{length, length-append}
 use Prim.Native.Nat.{ℕ, suc, _+_, _-_, _<_, _≤_}
 use borrow.Author.Tests.{leb-false, ltb-true}
 use Rattle.tree.specs.Name.{Name}
-use Rattle.tree.specs.Forest.{Present, Forest, Node, Node.absent, Node.file, Node.folder, Sorted, SortedNode, TreePath, at, kids, size}
-use Rattle.tree.specs.Put.{put}
-use Rattle.tree.specs.Rules.{ContentRule, NameRule, Within, WithinNode}
-use Rattle.tree.proofs.Put.{Open, put-here, sorted-put}
-use Rattle.listing.specs.Accepted.{All, Fit, GoodState, GoodStep, Inside, IsFolder}
+use Rattle.tree.specs.Forest.{Present, Forest, Node, Node.absent, Node.file, Node.folder, Sorted, SortedNode, TreePath, at, kids, size, rowCount}
+use Rattle.tree.specs.Put.{put, Reaches}
+use Rattle.tree.specs.Rules.{ContentRule, NameRule, Within, WithinNode, AllNames}
+use Rattle.tree.proofs.Put.{put-here, sorted-put, put-folder}
+use Rattle.tree.proofs.Size.{size-put}
+use Rattle.tree.proofs.Rules.{under, under-length, within-put}
+use Rattle.listing.specs.Accepted.{Fit, GoodState, GoodStep, Inside, IsFolder}
 use Rattle.listing.specs.Entries.{Entry.holds, Said}
 use Rattle.listing.specs.Reading.{Step.goes, Step.stops, inForce, isAbsent, opened, placed}
-use Rattle.listing.proofs.Grown.{deeper, folder-above, nodeSize, parent-last, size-put, within-put}
+use Rattle.listing.proofs.Grown.{folder-above, parent-last}
 use Rattle.listing.proofs.Kept.{GoodEntry, all-last}
 
 -- what an entry holds is one row
 pub record OneRow (x : Node) : Type 0 where
-  pub one : nodeSize x ≡ 1
+  pub one : rowCount x ≡ 1
   pub sorted : SortedNode x
   pub within : (d : ℕ) → WithinNode NameRule ContentRule d x
   pub there : Present x
@@ -31,15 +33,6 @@ one-row absent h = absurd h
 one-row (file c) h = record { one = refl; sorted = tt; within = λ d. h; there = tt }
 one-row (folder k) h =
     record { one = ap (λ (j : Forest). suc (size j)) h; sorted = rw h tt; within = λ d. rw h tt; there = tt }
-
-pub folder-put : (p : TreePath) (n : Name) (x : Node) (f : Forest) → folder (kids (put (p ++ (n ∷ [])) x (folder f))) ≡ put (p ++ (n ∷ [])) x (folder f)
-unfolding put
-folder-put [] n x f = refl
-folder-put (m ∷ p) n x f = refl
-
-deeper-is : (p : TreePath) (d : ℕ) → deeper p d ≡ length p + d
-deeper-is [] d = omega arith
-deeper-is (n ∷ p) d = omega (arith, deeper-is p d)
 
 pub is-absent : (x : Node) → isAbsent x ≡ true → x ≡ absent
 is-absent absent e = refl
@@ -56,33 +49,33 @@ module _ (most : ℕ) (n : Name) (x : Node) (f : Forest) (p : TreePath) (ds : Li
   grown : Forest
   grown = kids (put path x (folder f))
 
-  parent : Open path (folder f)
+  parent : Reaches path (folder f)
   unfolding path
   parent = parent-last p n (folder f) (h .here)
 
   at-new : at (folder grown) path ≡ x
   unfolding grown path
-  at-new = rw (folder-put p n x f) (put-here path x (folder f) (h .fit .good .sorted) parent)
+  at-new = rw (put-folder p n x f) (put-here path x (folder f) (h .fit .good .sorted) parent)
 
-  all-path : All NameRule path
+  all-path : AllNames NameRule path
   unfolding path
   all-path = all-last NameRule p n (h .named) rule
 
   sorted-new : Sorted grown
   unfolding grown path
-  sorted-new = rw (← folder-put p n x f) at (sorted-put path x (folder f) (row .sorted) (h .fit .good .sorted))
+  sorted-new = rw (← put-folder p n x f) at (sorted-put path x (folder f) (row .sorted) (h .fit .good .sorted))
 
   within-new : Within NameRule ContentRule 16 grown
   unfolding grown path
   within-new =
-      let e : deeper path (15 - length p) ≡ 16 = omega (arith, deeper-is path (15 - length p), length-append p (n ∷ [])) in
-      let k : WithinNode NameRule ContentRule (deeper path (15 - length p)) (folder f) = rw e (h .fit .good .within) in
-      rw (e, ← folder-put p n x f) at (within-put NameRule ContentRule path (15 - length p) x (folder f) all-path (row .within (15 - length p)) k)
+      let e : under path (15 - length p) ≡ 16 = omega (arith, under-length path (15 - length p), length-append p (n ∷ [])) in
+      let k : WithinNode NameRule ContentRule (under path (15 - length p)) (folder f) = rw e (h .fit .good .within) in
+      rw (e, ← put-folder p n x f) at (within-put NameRule ContentRule (15 - length p) path x (folder f) all-path (row .within (15 - length p)) k)
 
   size-new : suc (size grown) ≤ most
   unfolding grown path
   size-new =
-      omega (arith, size-put path x (folder f) (h .fit .good .sorted) parent, row .one, ap nodeSize free, ap nodeSize (folder-put p n x f))
+      omega (arith, size-put path x (folder f) (h .fit .good .sorted) parent, row .one, ap rowCount free, ap rowCount (put-folder p n x f))
 
   fit-new : Fit most grown
   fit-new = record { good = record { sorted = sorted-new; within = within-new }; room = size-new }

@@ -11,10 +11,10 @@ use Prim.Native.Nat.{ℕ, suc, zero, _-_, _<_}
 use borrow.Author.Tests.{ltb-true}
 use Rattle.tree.specs.Name.{Name}
 use Rattle.tree.specs.Forest.{Present, Forest, Forest.end, Node, Node.absent, Node.file, Node.folder, Sorted, TreePath, at, size}
-use Rattle.tree.specs.Rules.{ContentRule, NameRule, Within}
+use Rattle.tree.specs.Rules.{ContentRule, NameRule, Within, AllNames}
 use Rattle.tree.specs.Same.{sameWords}
 use Rattle.tree.proofs.Same.{and-true}
-use Rattle.listing.specs.Accepted.{All, GoodState, GoodStep, Inside, IsFolder}
+use Rattle.listing.specs.Accepted.{GoodState, GoodStep, Inside, IsFolder}
 use Rattle.listing.specs.Bytes.{text}
 use Rattle.listing.specs.Words.{Words, values}
 use Rattle.listing.specs.Values.{contentOf, digestOf, isDigest, isSize, sizeOf}
@@ -85,15 +85,15 @@ module _ (most : ℕ) where
       good-cond (sameWords w (text "/set")) _ _ (good-setting ws s h)
       (good-cond (sameWords w (text "/unset")) _ (stops 9) (good-clearing ws s h) tt)
 
-all-take : (P : Name → Type 0) (k : ℕ) (p : TreePath) → All P p → All P (take k p)
-unfolding All
+all-take : (P : Name → Type 0) (k : ℕ) (p : TreePath) → AllNames P p → AllNames P (take k p)
+unfolding AllNames
 all-take P zero [] h = tt
 all-take P zero (n ∷ p) h = tt
 all-take P (suc k) [] h = tt
 all-take P (suc k) (n ∷ p) h = (h .0, all-take P k p (h .1))
 
-pub all-last : (P : Name → Type 0) (p : TreePath) (n : Name) → All P p → P n → All P (p ++ (n ∷ []))
-unfolding All
+pub all-last : (P : Name → Type 0) (p : TreePath) (n : Name) → AllNames P p → P n → AllNames P (p ++ (n ∷ []))
+unfolding AllNames
 all-last P [] n h q = (q, tt)
 all-last P (m ∷ p) n h q = (h .0, all-last P p n (h .1) q)
 
@@ -116,7 +116,7 @@ module _ (most : ℕ) where
       let there : Present (at (folder f) (front q ++ (getD q (length q - 1) [] ∷ []))) = rw (split-last q (omega arith)) at (there-of (at (folder f) q) (h .here)) in
       let deep = h .deep in
       let each = h .each in
-      let named : All NameRule (front q) = all-take NameRule (length q - 1) q (h .named) in
+      let named : AllNames NameRule (front q) = all-take NameRule (length q - 1) q (h .named) in
       record {
         fit = h .fit;
         here = folder-above (front q) _ (folder f) there;
@@ -132,7 +132,7 @@ module _ (most : ℕ) where
   good-closing ws (closed f) h = tt
 
   root-state : (d : Said) → 0 < most → Inside most end [] (d ∷ [])
-  unfolding Sorted Within All at size
+  unfolding Sorted Within AllNames at size
   root-state d h =
       record { fit = record { good = record { sorted = tt; within = tt }; room = h }; here = tt; named = tt; deep = omega arith; each = refl }
 

@@ -10,6 +10,7 @@ use borrow.Author.Tests.{eqb-false, eqb-true, le-leb, ne-eqb, not-true}
 use Rattle.tree.specs.Name.{Name}
 use Rattle.tree.specs.Rules.{NameRule, Words32, bytes, goodName, zeroFilled, zeros}
 use Rattle.tree.proofs.Same.{and-true}
+use Rattle.tree.proofs.Rules.{length-bytes}
 use Rattle.listing.specs.Bytes.{among, classOf, digitValue}
 use Rattle.listing.specs.Names.{decode, decodeFrom, isName, nameOf, octal, packed}
 use Rattle.listing.specs.Writing.{asItIs, nameText, spell, spellByte}
@@ -168,11 +169,6 @@ packed-bytes (a ∷ b ∷ c ∷ d ∷ f ∷ g ∷ h ∷ i ∷ []) e w =
     simp (quad-of, w .0, w .1 .0, w .1 .1 .0, w .1 .1 .1 .0, w .1 .1 .1 .1 .0, w .1 .1 .1 .1 .1 .0, w .1 .1 .1 .1 .1 .1 .0, w .1 .1 .1 .1 .1 .1 .1 .0)
 packed-bytes (a ∷ b ∷ c ∷ d ∷ f ∷ g ∷ h ∷ i ∷ j ∷ l) e w = absurd (omega arith)
 
-pub bytes-length : (ws : List ℕ) → length (bytes ws) ≡ 4 * length ws
-unfolding bytes
-bytes-length [] = refl
-bytes-length (x ∷ xs) = omega (arith, bytes-length xs)
-
 pub bytes-small : (ws : List ℕ) → Words32 ws → Small (bytes ws)
 unfolding Small bytes Words32
 bytes-small [] w = tt
@@ -200,5 +196,5 @@ module _ (n : Name) (rule : NameRule n) where
   pub is-name : isName (nameText n) ≡ true
   unfolding isName
   is-name =
-      let h : length (upTo (bytes n)) ≤ 32 = omega (arith, up-to-length (bytes n), bytes-length n, rule .eight) in
+      let h : length (upTo (bytes n)) ≤ 32 = omega (arith, up-to-length (bytes n), length-bytes n, rule .eight) in
       rw (decoded, no-zero (bytes n), le-leb _ 32 h, ← decoded, name-back, rule .good)

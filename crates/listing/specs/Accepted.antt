@@ -1,11 +1,11 @@
 -- What reading accepts, a tree that a table may hold with room for its rows, and what every line keeps of the state.
 use mathlib.Core.Path.{_≡_}
-use mathlib.Core.List.{List, [], _∷_}
+use mathlib.Core.List.{List}
 use lib.ListN.{length}
 use Prim.Native.Nat.{ℕ, suc, _≤_}
 use Rattle.tree.specs.Name.{Name}
 use Rattle.tree.specs.Forest.{Forest, Node, Node.absent, Node.file, Node.folder, TreePath, at, size}
-use Rattle.tree.specs.Rules.{NameRule, WellFormed}
+use Rattle.tree.specs.Rules.{NameRule, WellFormed, AllNames}
 use Rattle.listing.specs.Entries.{Said}
 use Rattle.listing.specs.Reading.{Outcome.accepted, State, State.before, State.inside, State.closed, Step, Step.stops, Step.goes, mostRows, reading}
 
@@ -13,11 +13,6 @@ use Rattle.listing.specs.Reading.{Outcome.accepted, State, State.before,
 pub record Fit (most : ℕ) (f : Forest) : Type 0 where
   pub good : WellFormed f
   pub room : suc (size f) ≤ most
-
--- P of every name of a path
-unfoldable pub All : (Name → Type 0) → TreePath → Type 0
-All P [] = Unit {0}
-All P (n ∷ p) = P n × All P p
 
 -- only a folder is open
 abbrev pub IsFolder : Node → Type 0
@@ -29,7 +24,7 @@ IsFolder (folder k) = Unit {0}
 pub record Inside (most : ℕ) (f : Forest) (p : TreePath) (ds : List Said) : Type 0 where
   pub fit : Fit most f
   pub here : IsFolder (at (folder f) p)
-  pub named : All NameRule p
+  pub named : AllNames NameRule p
   pub deep : length p ≤ 16
   pub each : length ds ≡ suc (length p)
 

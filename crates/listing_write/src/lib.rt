@@ -1,6 +1,6 @@
 // Writing a table as an mtree listing.
 ghost use mathlib.Core.Path.{_≡_};
-ghost use Prim.Native.Nat.{ℕ, _+_, _-_, _*_, _≤_, _<_, _^_};
+ghost use Prim.Native.Nat.{_+_, _-_, _*_, _≤_, _<_, _^_};
 ghost use lib.ListN.{length, drop, getD};
 ghost use Rattle.row.specs.Table.{rowAt, rows, content};
 ghost use Rattle.rules.specs.declared.Checked.the-variants.{Fine};

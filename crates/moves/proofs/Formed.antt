@@ -6,13 +6,12 @@ use native.Mathlib.Omega.{arith}
 use lib.ListN.{length, take, length-take}
 use Prim.Native.Nat.{ℕ, zero, suc, _/_, _≤_}
 use Rattle.tree.specs.Name.{Name}
-use Rattle.tree.specs.Rules.{Words32, goodName, NameRule, ContentRule, WellFormed}
+use Rattle.tree.specs.Rules.{Words32, goodName, NameRule, WellFormed, AllNames}
 use Rattle.settle.specs.Resume.{moved}
 use Rattle.row.specs.Tree.{table, treeOf}
 use Rattle.rules.specs.declared.Answer.the-variants.{Accepted}
 use Rattle.rules.specs.declared.Checked.the-variants.{Fine}
 use Rattle.rules.specs.Rules.{checked}
-use Rattle.tree.proofs.Rules.{NamesOf}
 use Rattle.tree.proofs.Same.{and-true}
 use Rattle.row.proofs.Tree.{length-table, tree-table}
 use Rattle.settle.proofs.Rules.{well-formed-moved}
@@ -23,8 +22,8 @@ use Rattle.moves.specs.Move.{movedWords, moveDue}
 use Rattle.moves.proofs.Due.{path-depth, path-slots, Passes, move-passed}
 
 -- the names of a path whose slots are good
-pub names-ruled : (n : ℕ) (ms : List Name) → Eights ms → slots n ms ≡ true → NamesOf NameRule ContentRule (take n ms)
-unfolding Eights slots NamesOf
+pub names-ruled : (n : ℕ) (ms : List Name) → Eights ms → slots n ms ≡ true → AllNames NameRule (take n ms)
+unfolding Eights slots AllNames
 names-ruled zero ms h e = tt
 names-ruled (suc n) [] h e = tt
 names-ruled (suc n) (m ∷ ms) h e =

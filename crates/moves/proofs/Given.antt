@@ -9,10 +9,9 @@ use Prim.Native.Nat.{ℕ, zero, suc, _-_, _≤_}
 use borrow.Author.Needs.{needs}
 use borrow.Author.Tests.{le-leb}
 use Rattle.tree.specs.Forest.{TreePath}
-use Rattle.tree.specs.Rules.{Words32, zeros, NameRule, ContentRule}
+use Rattle.tree.specs.Rules.{Words32, zeros, NameRule, AllNames}
 use Rattle.settle.specs.Resume.{moved}
 use Rattle.row.specs.Tree.{rootName, table, treeOf}
-use Rattle.tree.proofs.Rules.{NamesOf}
 use Rattle.moves.specs.Path.{Eights, pathOf, slotsOf, slots, pathRule}
 use Rattle.moves.specs.Move.{movedWords}
 
@@ -28,13 +27,13 @@ empty-eights zero = tt
 empty-eights (suc k) = (refl, search needs, empty-eights k)
 
 -- names before them
-named-slots : (p : TreePath) (k : ℕ) → NamesOf NameRule ContentRule p → slots (length p) (p ++ replicate k rootName) ≡ true
-unfolding slots NamesOf
+named-slots : (p : TreePath) (k : ℕ) → AllNames NameRule p → slots (length p) (p ++ replicate k rootName) ≡ true
+unfolding slots AllNames
 named-slots [] k N = empty-slots k
 named-slots (n ∷ p) k N = rw (N .0 .good) (named-slots p k (N .1))
 
-named-eights : (p : TreePath) (k : ℕ) → NamesOf NameRule ContentRule p → Eights (p ++ replicate k rootName)
-unfolding Eights NamesOf
+named-eights : (p : TreePath) (k : ℕ) → AllNames NameRule p → Eights (p ++ replicate k rootName)
+unfolding Eights AllNames
 named-eights [] k N = empty-eights k
 named-eights (n ∷ p) k N = (N .0 .eight, N .0 .small, named-eights p k (N .1))
 
@@ -48,7 +47,7 @@ module _ (p : TreePath) where
   pub given-words : (target source : List ℕ) → movedWords target source (slotsOf p) (length p) ≡ table (moved p (treeOf source) (treeOf target))
   given-words target source = ap (λ (q : TreePath). table (moved q (treeOf source) (treeOf target))) given-path
 
-  module _ (N : NamesOf NameRule ContentRule p) where
+  module _ (N : AllNames NameRule p) where
     pub given-rule : 1 ≤ length p → length p ≤ 16 → pathRule (slotsOf p) (length p) ≡ true
     unfolding pathRule
     given-rule a b = rw (le-leb 1 (length p) a, le-leb (length p) 16 b) (named-slots p (16 - length p) N)

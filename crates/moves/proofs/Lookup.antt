@@ -15,15 +15,15 @@ use Rattle.find.specs.declared.Found.{Found}
 use Rattle.find.specs.declared.Found.the-variants.{At, Nothing}
 use Rattle.find.specs.Entry.{Finds}
 use Rattle.find.specs.Subtree.{endOf, subtree}
-use Rattle.path.specs.Follow.{follow}
+use Rattle.follow.specs.Follow.{follow}
 use Rattle.stands.specs.Stands.{Stands, RuledNode, Holds, foundAt}
 use Rattle.stands.specs.Around.{rowIn, nameOn}
 use Rattle.carry.specs.Carried.{wordsAt}
 use mir.Val.{Fits}
 use mir.Syntax.{w32}
 use Rattle.tree.proofs.Never.{never}
-use Rattle.rules.proofs.Fine.{fine-most, fine-length}
-use Rattle.path.proofs.Follow.{inside-at, part-length}
+use Rattle.rules.proofs.Fine.{fine-most}
+use Rattle.follow.proofs.Follow.{inside-at, part-length}
 use Rattle.rules.proofs.Small.{small-all}
 use Rattle.stands.proofs.Rows.{head}
 use Rattle.carry.proofs.Nodes.{table-holds, node-words}
@@ -34,9 +34,6 @@ use Rattle.moves.specs.Pieces.{folderAt, WordsAt}
 -- a checked table that is a slice, whose words are of 32 bits, holds its tree
 pub slice-holds : (w : List ℕ) → checked w ≡ Fine → ((k : ℕ) → Fits w32 (getD w k 0)) → Holds w 0 rootName (folder (treeOf w))
 slice-holds w e s = table-holds w e (small-all w (λ k. omega (arith, s k)))
-
-pub fine-some : (w : List ℕ) → checked w ≡ Fine → 20 ≤ length w
-fine-some w e = omega (arith, fine-length w e)
 
 found-row : (y : Node) (i j : ℕ) → foundAt y j ≡ At i → Present y × (j ≡ i)
 found-row absent i j e = never (cc)

@@ -9,7 +9,7 @@ use lib.ListN.{length, take, drop, getD, length-append, length-take, length-drop
 use lib.Seq.{take-suc, take-all}
 use Prim.Native.Nat.{ℕ, zero, suc, _+_, _*_, _-_, _/_, _≤_}
 use Rattle.tree.specs.Name.{Name}
-use Rattle.tree.specs.Forest.{Forest, Node, Node.absent, Node.file, Node.folder, TreePath, at, kids}
+use Rattle.tree.specs.Forest.{Forest, Node, Node.absent, Node.file, Node.folder, TreePath, at}
 use Rattle.tree.specs.Put.{put}
 use Rattle.settle.specs.Resume.{moved}
 use Rattle.row.specs.Buffer.{written, over}
@@ -21,6 +21,7 @@ use Rattle.stands.specs.Stands.{Holds}
 use Rattle.stands.specs.Around.{entryEnd, rowIn}
 use Rattle.carry.specs.Carried.{wordsAt}
 use Rattle.tree.proofs.Never.{never}
+use Rattle.tree.proofs.Put.{put-folder}
 use Rattle.row.proofs.Buffer.{over-nil, over-written}
 use Rattle.stands.proofs.Put.{name-entry, place-entry, end-entry, put-entry}
 use Rattle.moves.specs.Path.{parentOf, pathOf}
@@ -31,12 +32,6 @@ use Rattle.moves.specs.Pieces.{folderAt, pieces, Rows}
 path-last : (names : List Name) (n : ℕ) → 1 ≤ n → n ≤ length names → take n names ≡ take (n - 1) names ++ (getD names (n - 1) [] ∷ [])
 path-last names zero h k = absurd (omega arith)
 path-last names (suc n) h k = rw sub-one (take-suc names n [] k)
-
--- what is put below a folder leaves it a folder
-put-folder : (q : TreePath) (n : Name) (y : Node) (f : Forest) → folder (kids (put (q ++ (n ∷ [])) y (folder f))) ≡ put (q ++ (n ∷ [])) y (folder f)
-unfolding put
-put-folder [] n y f = refl
-put-folder (m ∷ q) n y f = refl
 
 -- a folder that is found
 folder-there : (y : Node) (i j : ℕ) → cond (isFolder y) (At j) Nothing ≡ At i → ((k : Forest) × (y ≡ folder k)) × (j ≡ i)

@@ -3,7 +3,7 @@ use find::Found;
 use rules::Answer;
 ghost use mathlib.Core.Path.{_≡_};
 ghost use mathlib.Core.List.{_∷_, [], _++_};
-ghost use Prim.Native.Nat.{ℕ, _+_, _*_, _≤_};
+ghost use Prim.Native.Nat.{_+_, _*_, _≤_};
 ghost use lib.ListN.{length};
 ghost use Rattle.row.specs.Buffer.{over};
 ghost use Rattle.row.specs.Tree.{treeOf};
@@ -13,7 +13,7 @@ ghost use Rattle.rules.specs.Rules.{checked};
 ghost use Rattle.find.specs.Entry.{Finds, place};
 ghost use Rattle.stands.specs.Around.{entryEnd};
 ghost use Rattle.moves.specs.Path.{parentOf, pathOf, slots, pathRule};
-ghost use Rattle.rules.specs.Faults.{firstRefusal, unless};
+ghost use Rattle.rules.specs.Faults.{firstRefusal};
 ghost use Rattle.moves.specs.Move.{MoveContract};
 ghost use Rattle.moves.specs.Pieces.{slotRule, folderAt, pieces, Rows, WordsAt, inputsDue, PutIn, CarriedOut};
 
@@ -100,7 +100,7 @@ fn parent_row(t: &[u32], names: [[u32; 8]; 16], depth: usize) -> Found
     requires { ⌜ (checked (now t) ≡ Fine) × (1 ≤ depth) × (depth ≤ 16) ⌝ }
     ensures { λ r. ⌜ Finds (now (t .entry)) (folderAt (treeOf (now (t .entry))) (parentOf names depth)) r ⌝ }
 {
-    match path::lookup(t, names, 0, depth - 1) {
+    match follow::lookup(t, names, 0, depth - 1) {
         Found::At(i) => {
             if row::word(t, i, 1) == 0 {
                 return Found::At(i);
@@ -127,7 +127,7 @@ fn words_at(t: &[u32], names: [[u32; 8]; 16], depth: usize) -> &[u32]
     requires { ⌜ (checked (now t) ≡ Fine) × (depth ≤ 16) ⌝ }
     ensures { λ r. ⌜ WordsAt (treeOf (now (t .entry))) (pathOf names depth) (now r) ⌝ }
 {
-    match path::lookup(t, names, 0, depth) {
+    match follow::lookup(t, names, 0, depth) {
         Found::At(i) => {
             let e = find::subtree_end(t, i);
             let a = 20 * i;

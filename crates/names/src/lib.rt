@@ -1,6 +1,6 @@
 // The name that a word spells: escapes undone, and its bytes as eight words.
 ghost use mathlib.Core.Path.{_≡_};
-ghost use Prim.Native.Nat.{ℕ, _+_, _≤_, _<_};
+ghost use Prim.Native.Nat.{_+_, _≤_, _<_};
 ghost use lib.ListN.{length, drop, getD};
 ghost use Rattle.listing.specs.Bytes.{classOf, digitValue, Digit};
 ghost use Rattle.listing.specs.Names.{octal as octalOf, speltAs, quad as quadOf, packed};

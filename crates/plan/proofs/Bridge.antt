@@ -8,11 +8,11 @@ use native.Mathlib.Numerals.{add-one}
 use lib.ListN.{length}
 use Prim.Native.Nat.{ℕ, zero, suc, _+_, _≤_, _<_}
 use Rattle.tree.specs.Name.{Name}
-use Rattle.tree.specs.Forest.{Forest, Forest.end, kids, size, Sorted}
+use Rattle.tree.specs.Forest.{Forest, Forest.end, kids, size, Sorted, rowCount}
 use Rattle.tree.specs.Same.{sameNode}
 use Rattle.settle.specs.Decision.{rule, decide}
 use Rattle.settle.specs.Plan.{settle}
-use Rattle.stands.specs.Stands.{rowCount, Ruled}
+use Rattle.stands.specs.Stands.{Ruled}
 use Rattle.cursor.specs.Cursor.{none, orderAt, turned, least, decision}
 use Rattle.cursor.specs.declared.Rows.{Rows}
 use Rattle.cursor.specs.declared.Decision.the-variants.{Agreed, LeftGets, RightGets, Clash}

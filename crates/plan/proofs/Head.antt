@@ -7,10 +7,11 @@ use lib.Seq.{drop-drop, drop-at}
 use Prim.Native.Nat.{ℕ, suc, _+_, _<_}
 use borrow.Author.Tests.{lt-ltb, le-ltb, eq-eqb, ne-eqb}
 use Rattle.tree.specs.Name.{Name}
-use Rattle.tree.specs.Forest.{Forest, Forest.end, Forest.leaf, Forest.dir, Node, Node.absent, Node.file, Node.folder, add, size, Present}
+use Rattle.tree.specs.Forest.{Forest, Forest.end, Forest.leaf, Forest.dir, Node, Node.absent, Node.file, Node.folder, add, size, Present, rowCount}
 use Rattle.row.specs.Table.{Row, rows, depth}
 use Rattle.row.specs.Tree.{fileRow, folderRow, rowsOf, nodeRows}
-use Rattle.stands.specs.Stands.{Ended, Stands, rowCount}
+use Rattle.row.proofs.Tree.{rows-add}
+use Rattle.stands.specs.Stands.{Ended, Stands}
 use Rattle.cursor.specs.Cursor.{none, seek, from, behind}
 use Rattle.stands.proofs.Rows.{head}
 use Rattle.stands.proofs.Forest.{length-nodeRows, ended-up, ended-rows}
@@ -47,12 +48,6 @@ pub headRow-add : (m : Name) (y : Node) (s : Forest) (b : ℕ) → Present y →
 headRow-add m absent s b h = absurd h
 headRow-add m (file c) s b h = refl
 headRow-add m (folder k) s b h = refl
-
-rows-add : (d : ℕ) (n : Name) (x : Node) (s : Forest) → rowsOf d (add n x s) ≡ nodeRows d n x ++ rowsOf d s
-unfolding rowsOf nodeRows
-rows-add d n absent s = refl
-rows-add d n (file c) s = refl
-rows-add d n (folder k) s = refl
 
 head-rows : (w : List ℕ) (e : ℕ) (m : Name) (y : Node) (s : Forest) (b : ℕ) (r : Siblings w e (add m y s) b)
     → drop b (rows w) ≡ nodeRows (suc e) m y ++ (rowsOf (suc e) s ++ r .rest)

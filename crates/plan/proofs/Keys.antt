@@ -8,25 +8,25 @@ use lib.ListN.{length, length-append}
 use Prim.Native.Nat.{ℕ, zero, suc, _+_, _/_, _≤_, _<_, Ordering, Ordering·lt, Ordering·eq, Ordering·gt}
 use borrow.Author.Tests.{lt-ltb, le-ltb}
 use Rattle.tree.specs.Name.{Name, cmp, ifSame}
-use Rattle.tree.specs.Forest.{Forest, Forest.end, Forest.leaf, Forest.dir, Node, Node.absent, Node.file, Node.folder, kids, add, size, Sorted, Present}
+use Rattle.tree.specs.Forest.{Forest, Forest.end, Forest.leaf, Forest.dir, Node, Node.absent, Node.file, Node.folder, kids, add, size, Sorted, Present, rowCount}
 use Rattle.tree.specs.Rules.{NameRule, ContentRule, Within}
 use Rattle.settle.specs.Names.{names}
 use Rattle.settle.specs.Plan.{Entry.single, Entry.pair, plan, settle}
 use Rattle.row.specs.Tree.{rowsOf, nodeRows}
-use Rattle.stands.specs.Stands.{StandsOr, rowCount, Ruled, RuledNode}
+use Rattle.row.proofs.Tree.{length-rows}
+use Rattle.stands.specs.Stands.{StandsOr, Ruled, RuledNode}
 use Rattle.cursor.specs.Cursor.{isRow}
 use Rattle.tree.proofs.Never.{never}
 use Rattle.tree.proofs.Order.{cmp-refl}
 use Rattle.tree.proofs.Forest.{siblings-ind, sorted-kids, sorted-parts}
 use Rattle.tree.proofs.Rules.{within-parts, within-kids}
+use Rattle.tree.proofs.Size.{size-add}
 use Rattle.settle.proofs.Names.{has, has-names, present}
 use Rattle.settle.proofs.Merge.{first, skip, first-add, skip-add, find-first}
 use Rattle.stands.proofs.Rows.{head, length-rows-from}
-use Rattle.stands.proofs.Forest.{length-rowsOf}
 use Rattle.plan.proofs.Head.{Run}
 use Rattle.plan.proofs.Least.{Key, Key.named, Key.last, key, UpTo, LeastOf, least-key}
 use Rattle.plan.proofs.OneTable.{isFold}
-use Rattle.plan.proofs.Runs.{size-add}
 
 pub key-last : (f : Forest) → key f ≡ last → f ≡ end
 key-last end e = refl
@@ -60,10 +60,10 @@ unfolding size
 run-size w e end b r = omega arith
 run-size w e (leaf m c s) b r =
     let f = leaf m c s in
-    omega (arith, length-rows-from w b, ap length (r .here), length-append (rowsOf (suc e) f) (r .rest), length-rowsOf (suc e) f)
+    omega (arith, length-rows-from w b, ap length (r .here), length-append (rowsOf (suc e) f) (r .rest), length-rows (suc e) f)
 run-size w e (dir m k s) b r =
     let f = dir m k s in
-    omega (arith, length-rows-from w b, ap length (r .here), length-append (rowsOf (suc e) f) (r .rest), length-rowsOf (suc e) f)
+    omega (arith, length-rows-from w b, ap length (r .here), length-append (rowsOf (suc e) f) (r .rest), length-rows (suc e) f)
 
 pub size-none : (f : Forest) → size f ≡ 0 → f ≡ end
 unfolding size

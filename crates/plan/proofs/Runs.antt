@@ -5,16 +5,17 @@ use mathlib.Core.Bool.{true}
 use native.Mathlib.Omega.{arith}
 use Prim.Native.Nat.{ℕ, suc, _+_, Ordering, Ordering·lt, Ordering·eq, Ordering·gt}
 use Rattle.tree.specs.Name.{Name, cmp, ifSame, byOrder}
-use Rattle.tree.specs.Forest.{TreePath, Forest, Forest.end, Forest.leaf, Forest.dir, Node, Node.absent, Node.file, Node.folder, find, kids, at, add, size, Sorted, Present}
+use Rattle.tree.specs.Forest.{TreePath, Forest, Forest.end, Forest.leaf, Forest.dir, Node, Node.absent, find, kids, at, add, size, Sorted, Present, rowCount}
 use Rattle.settle.specs.Decision.{Decision.agreed, decide}
 use Rattle.settle.specs.Names.{Names, names}
 use Rattle.settle.specs.Plan.{Plan, Entry, Entry.single, Entry.pair, addItem, planOver, settleIn, plan, settle}
 use Rattle.settle.specs.Results.{Line, Line.line, Lines, under}
-use Rattle.stands.specs.Stands.{rowCount}
 use Rattle.stands.specs.Around.{before, rowIn}
+use Rattle.stands.proofs.Around.{before-add}
 use Rattle.tree.proofs.Never.{never}
 use Rattle.tree.proofs.Order.{flip, cmp-eq, cmp-flip}
 use Rattle.tree.proofs.Forest.{siblings-ind}
+use Rattle.tree.proofs.Size.{size-add}
 use Rattle.settle.proofs.Names.{has, Over}
 use Rattle.settle.proofs.Merge.{first, skip, Least, first-add, skip-add, find-first, find-skip, over-rest, plan-step}
 use Rattle.plan.specs.Items.{kind, items, orNone, wordsOf}
@@ -69,18 +70,6 @@ pub record Ready (n : Name) (z : Runs) : Type 0 where
   pub lo : Least n (z .o)
   pub ll : Least n (z .l)
   pub lr : Least n (z .r)
-
-before-add : (n m : Name) (y : Node) (s : Forest) → Present y → before n (add m y s) ≡ byOrder (cmp n m) end end (add m y (before n s))
-unfolding before
-before-add n m absent s h = absurd h
-before-add n m (file c) s h = refl
-before-add n m (folder k) s h = refl
-
-pub size-add : (m : Name) (y : Node) (s : Forest) → size (add m y s) ≡ rowCount y + size s
-unfolding size
-size-add m absent s = omega arith
-size-add m (file c) s = omega arith
-size-add m (folder k) s = omega arith
 
 -- behind n the rows before a later name m are those that were, less the head's
 before-skip : (n m : Name) → cmp n m ≡ Ordering·lt → (f : Forest) → size (before m f) ≡ rowCount (first n f) + size (before m (skip n f))

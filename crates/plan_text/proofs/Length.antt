@@ -10,12 +10,12 @@ use Prim.Native.Nat.{ℕ, zero, suc, _+_, _*_, _/_, _%_, _≤_}
 use Rattle.tree.specs.Name.{Name}
 use Rattle.tree.specs.Forest.{TreePath, Forest, Forest.end, Forest.leaf, Forest.dir, Node, Node.absent, Node.file, Node.folder, Present, at, find, size}
 use Rattle.tree.specs.Rules.{NameRule, ContentRule, Within, WithinNode, WellFormed, bytes}
-use Rattle.tree.proofs.Rules.{within-find}
-use Rattle.rules.proofs.Words.{length-bytes}
+use Rattle.tree.proofs.Rules.{within-find, length-bytes}
+use Rattle.tree.proofs.Forest.{at-absent}
 use Rattle.settle.specs.Decision.{Decision.clash}
 use Rattle.settle.specs.Results.{Line.line, Lines, outcome}
 use Rattle.stands.proofs.Forest.{ruled-within}
-use Rattle.stands.proofs.Path.{at-absent, ruled-find}
+use Rattle.stands.proofs.Path.{ruled-find}
 use Rattle.route.proofs.Path.{present-above}
 use Rattle.plan.specs.Items.{kind}
 use Rattle.plan.proofs.Bound.{lines-bound}
@@ -23,6 +23,7 @@ use Rattle.tally.specs.declared.Tally.{Tally}
 use Rattle.tally.specs.Count.{tallyOf}
 use Rattle.listing.specs.Bytes.{text}
 use Rattle.listing.specs.Writing.{asItIs, spellByte, spell, nameText, decimal}
+use Rattle.listing.proofs.Digits.{decimal-length}
 use Rattle.plan_text.specs.Text.{mark, namesText, pathText, marked, lineText, linesText, countsText, planText}
 use Rattle.plan_text.specs.Sides.{Sided}
 use Rattle.plan_text.proofs.Sides.{listed-sided}
@@ -73,20 +74,10 @@ marked-length : (k : ℕ) (s : List ℕ) → length (marked k s) ≡ length s + 
 unfolding marked
 marked-length k s = simp (length-append, mark-length) (omega arith)
 
-count-length : (k n : ℕ) (s : List ℕ) → length (decimal k n s) ≤ k + length s
-unfolding decimal
-count-length zero n s = omega arith
-count-length (suc k) n s = go (ltb n 10) (count-length k (n / 10) ((48 + n % 10) ∷ s))
-  where
-    go : (b : Bool) → length (decimal k (n / 10) ((48 + n % 10) ∷ s)) ≤ k + suc (length s)
-        → length (cond b ((48 + n) ∷ s) (decimal k (n / 10) ((48 + n % 10) ∷ s))) ≤ suc k + length s
-    go true h = omega arith
-    go false h = omega arith
-
 counts-length : (t : Tally) → length (countsText t) ≤ 65
 unfolding countsText
 counts-length t =
-    simp length-append (omega (arith, count-length 20 (t .left) [], count-length 20 (t .right) [], count-length 20 (t .clash) []))
+    simp length-append (omega (arith, decimal-length 20 (t .left) [] .0, decimal-length 20 (t .right) [] .0, decimal-length 20 (t .clash) [] .0))
 
 module _ (l r : Forest) (L : WellFormed l) (R : WellFormed r) where
   path-length : (p : TreePath) → Present (at (folder l) p) ⊎ Present (at (folder r) p) → length (pathText p) ≤ 2065

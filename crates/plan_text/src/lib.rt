@@ -1,5 +1,5 @@
 // A reconciliation's list as text: a line for each entry, and a last one with the counts.
-ghost use Prim.Native.Nat.{ℕ, _+_, _*_, _≤_, _<_, _/_, _^_};
+ghost use Prim.Native.Nat.{_+_, _*_, _≤_, _<_, _/_, _^_};
 ghost use lib.ListN.{length, drop};
 ghost use Rattle.spell.specs.Puts.{Puts};
 ghost use Rattle.route.specs.Route.{pathOf};

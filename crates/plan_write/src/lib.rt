@@ -2,7 +2,7 @@
 use cursor::Decision;
 use cursor::Rows;
 ghost use mathlib.Core.Path.{_≡_};
-ghost use Prim.Native.Nat.{ℕ, _+_, _-_, _*_, _≤_, _<_};
+ghost use Prim.Native.Nat.{_+_, _-_, _≤_, _<_};
 ghost use lib.ListN.{length};
 ghost use Rattle.plan.specs.Settle.{Three, decisionWords, ended, past, firsts, both, entry, folder, settled};
 ghost use Rattle.plan.specs.Writes.{Writes, Fills};

@@ -4,7 +4,7 @@ use mathlib.Core.List.{List}
 use native.Mathlib.Omega.{arith}
 use lib.ListN.{length, take}
 use Prim.Native.Nat.{ℕ, _+_, _*_, _≤_}
-use Rattle.tree.specs.Forest.{Node, size}
+use Rattle.tree.specs.Forest.{Node, size, rowCount}
 use Rattle.tree.specs.Rules.{WellFormed, Words32}
 use Rattle.settle.specs.Decision.{Decision, Decision.agreed, Decision.leftGets, Decision.rightGets, Decision.clash}
 use Rattle.settle.specs.Results.{forArchive, forLeft, forRight, newArchive, newLeft, newRight}
@@ -15,7 +15,6 @@ use Rattle.rules.specs.declared.Answer.the-variants.{Accepted}
 use Rattle.rules.specs.declared.Checked.the-variants.{Fine}
 use Rattle.rules.specs.Rules.{checked}
 use Rattle.rules.proofs.Fine.{table-fine}
-use Rattle.stands.specs.Stands.{rowCount}
 use Rattle.spell.specs.Puts.{Puts}
 use Rattle.plan.specs.Items.{listWords}
 use Rattle.plan.proofs.Bound.{Takes, result-bound, lines-bound}

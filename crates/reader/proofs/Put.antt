@@ -8,7 +8,7 @@ use lib.ListN.{length, take, drop, getD, set, length-set, length-append}
 use lib.Seq.{take-length, take-append-le, drop-drop, getD-set-same, getD-set-other, take-suc-set}
 use Prim.Native.Nat.{ℕ, suc, _+_, _*_, _-_, _≤_, _<_}
 use Rattle.tree.specs.Name.{Name}
-use Rattle.tree.specs.Forest.{TreePath, Forest, Forest.end, Node, Node.absent, Node.folder, Present, at, kids, size}
+use Rattle.tree.specs.Forest.{TreePath, Forest, Forest.end, Node, Node.absent, Node.folder, Present, at, kids, size, rowCount}
 use Rattle.tree.specs.Put.{put}
 use Rattle.row.specs.Table.{Row, flat}
 use Rattle.row.specs.Tree.{nodeRows, rootName, table}
@@ -19,8 +19,9 @@ use Rattle.listing.specs.Entries.{Said}
 use Rattle.listing.specs.Reading.{inForce}
 use Rattle.listing.specs.Accepted.{Inside}
 use Rattle.tree.proofs.Forest.{sorted-at}
-use Rattle.listing.proofs.Grown.{nodeSize, parent-last, size-put}
-use Rattle.listing.proofs.Entered.{folder-put}
+use Rattle.tree.proofs.Put.{put-folder}
+use Rattle.tree.proofs.Size.{size-put}
+use Rattle.listing.proofs.Grown.{parent-last}
 use Rattle.stands.proofs.Put.{at-entry, place-entry, row-entry}
 use Rattle.stands.proofs.Subtree.{holds-table}
 use Rattle.slot.proofs.Grown.{inserted-rest, length-inserted, last-put, put-row, spot-entry}
@@ -48,7 +49,7 @@ module _ (most : ℕ) (w : List ℕ) (s : Reader) (f : Forest) (p : TreePath) (d
       (spot-entry p n k w (20 * s .count) 0 rootName (folder f) H e (s .last) (rw e at (h .last)))
 
   -- an entry more
-  module _ (n : Name) (x : Node) (row : Row) (there : Present x) (one : nodeSize x ≡ 1) (words : flat (nodeRows (suc (length p)) n x) ≡ row) (long : length row ≡ 20) (none : at (folder f) (p ++ (n ∷ [])) ≡ absent) (room : 20 * s .count + 20 ≤ length w) where
+  module _ (n : Name) (x : Node) (row : Row) (there : Present x) (one : rowCount x ≡ 1) (words : flat (nodeRows (suc (length p)) n x) ≡ row) (long : length row ≡ 20) (none : at (folder f) (p ++ (n ∷ [])) ≡ absent) (room : 20 * s .count + 20 ≤ length w) where
     abbrev path : TreePath
     path = p ++ (n ∷ [])
 
@@ -59,11 +60,11 @@ module _ (most : ℕ) (w : List ℕ) (s : Reader) (f : Forest) (p : TreePath) (d
     after = inserted w (20 * s .count) (20 * rowIn (folder f) path) row
 
     is-folder : folder grown ≡ put path x (folder f)
-    is-folder = folder-put p n x f
+    is-folder = put-folder p n x f
 
     size-grown : size grown ≡ suc (size f)
     size-grown =
-        omega (arith, size-put path x (folder f) (g .fit .good .sorted) (parent-last p n (folder f) (g .here)), one, ap nodeSize none, ap nodeSize is-folder)
+        omega (arith, size-put path x (folder f) (g .fit .good .sorted) (parent-last p n (folder f) (g .here)), one, ap rowCount none, ap rowCount is-folder)
 
     stays : (j : ℕ) → rowIn (folder grown) (take j path) ≡ rowIn (folder f) (take j path)
     stays j = rw is-folder (row-stays path j x (folder f) there (g .fit .good .sorted) (parent-last p n (folder f) (g .here)))

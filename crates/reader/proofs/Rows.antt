@@ -5,15 +5,14 @@ use native.Mathlib.Omega.{arith}
 use lib.ListN.{take}
 use Prim.Native.Nat.{ℕ, zero, suc, _+_, _≤_, _<_, Ordering, Ordering·lt, Ordering·eq, Ordering·gt}
 use Rattle.tree.specs.Name.{Name, cmp, byOrder, ifSame}
-use Rattle.tree.specs.Forest.{TreePath, Forest, Forest.end, Forest.leaf, Forest.dir, Node, Node.absent, Node.file, Node.folder, Present, SortedNode, at, find, size}
-use Rattle.tree.specs.Put.{put, update}
-use Rattle.stands.specs.Stands.{rowCount}
+use Rattle.tree.specs.Forest.{TreePath, Forest, Forest.end, Forest.leaf, Forest.dir, Node, Node.absent, Node.file, Node.folder, Present, SortedNode, at, find, size, rowCount}
+use Rattle.tree.specs.Put.{put, update, Reaches}
 use Rattle.stands.specs.Around.{before, rowIn}
 use Rattle.slot.specs.Insert.{Last, Last.none, Last.entry}
-use Rattle.tree.proofs.Forest.{sorted-find}
-use Rattle.tree.proofs.Put.{Open, find-update-same}
-use Rattle.stands.proofs.Path.{at-absent}
+use Rattle.tree.proofs.Forest.{sorted-find, at-absent}
+use Rattle.tree.proofs.Put.{find-update-same}
 use Rattle.tree.proofs.Never.{never}
+use Rattle.tree.proofs.Size.{some-rows}
 use Rattle.slot.proofs.Grown.{before-update}
 
 pub before-size : (n : Name) (f : Forest) → size (before n f) + rowCount (find n f) ≤ size f
@@ -34,11 +33,6 @@ before-size n (dir m k s) = go (cmp n m) (before-size n s)
     go Ordering·eq h = omega arith
     go Ordering·gt h = omega arith
 
-one-row : (x : Node) → Present x → 0 < rowCount x
-one-row absent h = absurd h
-one-row (file c) h = omega arith
-one-row (folder k) h = omega arith
-
 pub rows-within : (p : TreePath) (x : Node) → Present (at x p) → rowIn x p + rowCount (at x p) ≤ rowCount x
 unfolding at rowIn find
 rows-within [] x h = omega arith
@@ -48,18 +42,18 @@ rows-within (n ∷ p) (folder f) h = omega (arith, before-size n f, rows-within 
 
 pub last-within : (f : ℕ) (k : Forest) (last : ℕ) → Last f k last → last < f + suc (size k)
 last-within f k last none = omega arith
-last-within f k last (entry a h) = omega (arith, before-size a k, one-row (find a k) h)
+last-within f k last (entry a h) = omega (arith, before-size a k, some-rows (find a k) h)
 
 -- the rows of a path and of what is above it stay where something is put at the path
-present-put : (p : TreePath) (y x : Node) → Present y → Open p x → Present (put p y x)
-unfolding put Open
+present-put : (p : TreePath) (y x : Node) → Present y → Reaches p x → Present (put p y x)
+unfolding put Reaches
 present-put [] y x h o = h
 present-put (n ∷ p) y absent h o = absurd o
 present-put (n ∷ p) y (file c) h o = absurd o
 present-put (n ∷ p) y (folder f) h o = tt
 
-pub row-stays : (p : TreePath) (k : ℕ) (y x : Node) → Present y → SortedNode x → Open p x → rowIn (put p y x) (take k p) ≡ rowIn x (take k p)
-unfolding put Open rowIn
+pub row-stays : (p : TreePath) (k : ℕ) (y x : Node) → Present y → SortedNode x → Reaches p x → rowIn (put p y x) (take k p) ≡ rowIn x (take k p)
+unfolding put Reaches rowIn
 row-stays [] zero y x h s o = refl
 row-stays [] (suc k) y x h s o = refl
 row-stays (n ∷ p) zero y x h s o = refl

@@ -43,9 +43,6 @@ formed w s = fine-formed w (s .fine) (small-all w (λ k. omega (arith, s .small 
 is-table : (w : List ℕ) → Sound w → IsTable w (treeOf w)
 is-table w s = record { rows-are = rw (fine-table w (s .fine)) at (rows-table (treeOf w) (formed w s)); formed = formed w s }
 
-pub some-rows : (w : List ℕ) → checked w ≡ Fine → 20 ≤ length w
-some-rows w h = omega (arith, fine-length w h)
-
 list-length : (l r : Forest) (xs : Lines) → length (listWords l r xs) ≡ 3 * length xs
 unfolding wordsOf
 list-length l r [] = refl

@@ -27,6 +27,7 @@ use Rattle.results.specs.declared.Tree.{Tree}
 use Rattle.results.specs.declared.Tree.the-variants.{Archive, Left, Right}
 use Rattle.results.specs.Decisions.{decisionOf, decisions, pieces}
 use Rattle.results.specs.Pieces.{newTree, pieceList}
+use Rattle.results.proofs.Pieces.{line-most}
 use Rattle.rules.proofs.Faults.{first-passed, first-both, refusal-fine, unless-true, room-parts}
 use Rattle.tally.proofs.Laws.{counts-list}
 use Rattle.reconcile.specs.declared.Reconciled.{Reconciled}
@@ -56,12 +57,6 @@ rooms c a l r i h =
       right = room-parts (c .right) r (unless-true _ 3 3 (g .0)) .1;
       list = leb-true (c .list) (i / 3) (unless-true _ 3 4 (g .1));
     }
-
-line-most : (d : Decision) → length (pieceList d) ≤ 3
-line-most (Agreed h) = omega arith
-line-most (LeftGets h) = omega arith
-line-most (RightGets h) = omega arith
-line-most (Clash h) = omega arith
 
 -- an item gives one line at most
 lines-most : (n : ℕ) (p : List ℕ) → length (pieces pieceList (decisions n p)) ≤ 3 * n

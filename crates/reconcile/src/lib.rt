@@ -3,7 +3,7 @@ use results::Tree;
 use rules::Answer;
 use tally::Tally;
 ghost use mathlib.Core.Path.{_≡_};
-ghost use Prim.Native.Nat.{ℕ, _*_, _/_, _≤_};
+ghost use Prim.Native.Nat.{_*_, _/_, _≤_};
 ghost use lib.ListN.{length};
 ghost use Rattle.rules.specs.declared.Checked.the-variants.{Fine};
 ghost use Rattle.rules.specs.Rules.{checked};

@@ -42,8 +42,8 @@ module _ (t : Tree) (o l r : List ℕ) (ds : List Decision) where
   pub tree-length : 20 ≤ length l → length (newTree t o l r ds) ≡ 20 + length (pieces (pieceOf t o l r) ds)
   tree-length h = tree-split ∙ rw (length-take-le 20 l h)
 
-pub line-small : (d : Decision) → length (pieceList d) ≤ 81920
-line-small (Agreed h) = omega arith
-line-small (LeftGets h) = omega arith
-line-small (RightGets h) = omega arith
-line-small (Clash h) = omega arith
+pub line-most : (d : Decision) → length (pieceList d) ≤ 3
+line-most (Agreed h) = omega arith
+line-most (LeftGets h) = omega arith
+line-most (RightGets h) = omega arith
+line-most (Clash h) = omega arith

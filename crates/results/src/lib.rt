@@ -2,7 +2,7 @@
 use cursor::Decision;
 use cursor::Rows;
 ghost use mathlib.Core.Path.{_≡_};
-ghost use Prim.Native.Nat.{ℕ, _+_, _*_, _%_, _≤_};
+ghost use Prim.Native.Nat.{_+_, _*_, _%_, _≤_};
 ghost use lib.ListN.{length, drop};
 ghost use Rattle.row.specs.Table.{rowAt};
 ghost use Rattle.plan.specs.Settle.{Three};

@@ -10,17 +10,18 @@ use Prim.Native.Nat.{ℕ, suc, _+_, _/_, _≤_, _<_}
 use Rattle.tree.specs.Name.{Name}
 use Rattle.tree.specs.Forest.{TreePath, Forest, Forest.end, Forest.leaf, Forest.dir, Node, Node.absent, Node.file, Node.folder, Present, Sorted, SortedNode, at, find, size}
 use Rattle.tree.specs.Rules.{NameRule, WellFormed}
-use Rattle.tree.proofs.Forest.{sorted-find}
+use Rattle.tree.proofs.Forest.{sorted-find, at-absent}
 use Rattle.row.specs.Table.{Row, rowAt, rows, depth, name}
 use Rattle.row.specs.Tree.{fileRow, folderRow, rowsOf, nodeRows, rootName, table}
+use Rattle.row.proofs.Tree.{length-rows}
 use Rattle.stands.specs.Stands.{Stands, RuledNode}
 use Rattle.stands.specs.Around.{before, behind, rowIn, nameOn}
 use Rattle.stands.proofs.Rows.{head}
-use Rattle.stands.proofs.Forest.{length-rowsOf, file-name, folder-name}
+use Rattle.stands.proofs.Forest.{file-name, folder-name}
 use Rattle.stands.proofs.Around.{rows-split}
 use Rattle.stands.proofs.Entry.{stands-child}
 use Rattle.stands.proofs.Subtree.{stands-whole, holds-table}
-use Rattle.stands.proofs.Path.{ruled-find, at-absent, leads}
+use Rattle.stands.proofs.Path.{ruled-find, leads}
 use Rattle.route.specs.Route.{lastAbove, pathOf}
 use Rattle.route.proofs.Above.{above-here, above-back, path-root, path-next}
 
@@ -38,7 +39,7 @@ skip w d e (dir n k s) i rest h q =
     let t = head w i (folderRow e n) (rowsOf (suc e) k ++ (rowsOf e s ++ rest)) (q ∙ ap (λ (l : List Row). folderRow e n ∷ l) (append-assoc (rowsOf (suc e) k) (rowsOf e s) rest)) in
     let r = t .row in
     let z : i + suc (size k + size s) ≡ i + 1 + size k + size s = omega arith in
-    let u = sym (drop-drop (size k) (i + 1) (rows w)) ∙ ap (drop (size k)) (t .next) ∙ drop-at (rowsOf (suc e) k) (rowsOf e s ++ rest) (size k) (length-rowsOf (suc e) k) in
+    let u = sym (drop-drop (size k) (i + 1) (rows w)) ∙ ap (drop (size k)) (t .next) ∙ drop-at (rowsOf (suc e) k) (rowsOf e s ++ rest) (size k) (length-rows (suc e) k) in
     rw z
     (skip w d e s (i + 1 + size k) rest h u
     ∙ skip w d (suc e) k (i + 1) (rowsOf e s ++ rest) (omega arith) (t .next)

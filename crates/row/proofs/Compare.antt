@@ -1,7 +1,7 @@
 -- Comparing and testing word by word, from word k on.
 use mathlib.Core.Path.{_≡_, refl, ap, sym, _∙_}
 use mathlib.Core.List.{List}
-use mathlib.Core.Bool.{Bool, true, false}
+use mathlib.Core.Bool.{true, false}
 use native.Mathlib.Omega.{arith}
 use native.Mathlib.Numerals.{add-one}
 use lib.Dec.{isEq}
@@ -11,7 +11,7 @@ use Prim.Native.Nat.{ℕ, _+_, _≤_, _<_, Ordering·lt, Ordering·eq, Ordering�
 use Rattle.tree.specs.Name.{cmp}
 use Rattle.tree.specs.Same.{sameWords}
 use Rattle.tree.proofs.Order.{compare-refl, compare-below, compare-above}
-use Rattle.tree.proofs.Same.{sameWords-eq}
+use Rattle.tree.proofs.Same.{sameWords-false}
 
 module _ (a b : List ℕ) (k : ℕ) where
   pub cmp-end : length a ≤ k → length b ≤ k → cmp (drop k a) (drop k b) ≡ Ordering·eq
@@ -38,25 +38,17 @@ module _ (a b : List ℕ) (k : ℕ) where
   unfolding sameWords
   same-next ha hb e = ap isEq (cmp-next ha hb e)
 
--- two lists with a word that differs, or of different lengths, are not the same
-pub same-differ : (a b : List ℕ) → (a ≡ b → ⊥) → sameWords a b ≡ false
-same-differ a b h = go (sameWords a b) refl
-  where
-    go : (w : Bool) → sameWords a b ≡ w → w ≡ false
-    go true e = absurd (h (sameWords-eq a b e))
-    go false e = refl
-
 -- a loop that looks for a difference, before place k is looked at: what comes before it is the same. Words and bytes alike
 pub record Alike (a b : List ℕ) (k : ℕ) : Type 0 where
   pub within : k ≤ length a
   pub rest : sameWords a b ≡ sameWords (drop k a) (drop k b)
 
 pub alike-lengths : (a b : List ℕ) → (length a ≡ length b → ⊥) → false ≡ sameWords a b
-alike-lengths a b h = sym (same-differ a b (λ e. h (ap length e)))
+alike-lengths a b h = sym (sameWords-false a b (λ e. h (ap length e)))
 
 module _ {a b : List ℕ} {k : ℕ} (s : Alike a b k) where
   pub alike-differ : (getD a k 0 ≡ getD b k 0 → ⊥) → false ≡ sameWords a b
-  alike-differ h = sym (same-differ a b (λ e. h (ap (λ (w : List ℕ). getD w k 0) e)))
+  alike-differ h = sym (sameWords-false a b (λ e. h (ap (λ (w : List ℕ). getD w k 0) e)))
 
   pub alike-next : length a ≡ length b → k < length a → getD a k 0 ≡ getD b k 0 → Alike a b (k + 1)
   alike-next l h e = record { within = omega arith; rest = s .rest ∙ same-next a b k h (omega arith) e }

@@ -1,6 +1,6 @@
 // The words of a tree table, twenty to a row: one word, the order of two names, copying.
 ghost use mathlib.Core.Path.{_≡_};
-ghost use Prim.Native.Nat.{ℕ, _+_, _*_, _≤_, _<_};
+ghost use Prim.Native.Nat.{_+_, _*_, _≤_, _<_};
 ghost use lib.ListN.{length, getD};
 ghost use Rattle.tree.specs.Name.{cmp};
 ghost use Rattle.tree.specs.Same.{sameWords};

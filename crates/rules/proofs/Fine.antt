@@ -98,6 +98,9 @@ module _ (w : List ℕ) (fine : checked w ≡ Fine) where
       let e : length (rows w) ≡ suc (size (treeOf w)) = ap length fine-rows ∙ ap suc (length-rows 1 (treeOf w)) in
       omega (arith, fine-whole, length-rowsN (length w / 20) w)
 
+  pub fine-some : 20 ≤ length w
+  fine-some = omega (arith, fine-length)
+
   -- its tree is well formed
   pub fine-formed : Words32 w → WellFormed (treeOf w)
   unfolding treeOf

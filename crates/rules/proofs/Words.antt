@@ -42,11 +42,6 @@ module _ (s : List ℕ) (k : ℕ) where
   unfolding zeroFilled
   filled-end h = rw (drop-of-length-le s h)
 
-pub length-bytes : (w : List ℕ) → length (bytes w) ≡ 4 * length w
-unfolding bytes
-length-bytes [] = refl
-length-bytes (x ∷ xs) = omega (arith, length-bytes xs)
-
 -- byte k is byte k % 4 of word k / 4
 pub byte-is : (w : List ℕ) (k : ℕ) → k < 4 * length w → getD (bytes (getD w (k / 4) 0 ∷ [])) (k % 4) 0 ≡ getD (bytes w) k 0
 unfolding bytes

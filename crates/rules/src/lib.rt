@@ -1,7 +1,7 @@
 // The row rules: which row of a table is the lowest that breaks them, and the call that answers it.
 ghost use mathlib.Core.Path.{_≡_};
 ghost use mathlib.Core.List.{_∷_, []};
-ghost use Prim.Native.Nat.{ℕ, _+_, _-_, _*_, _≤_, _<_};
+ghost use Prim.Native.Nat.{_+_, _-_, _*_, _≤_, _<_};
 ghost use lib.ListN.{length, drop, getD};
 ghost use Rattle.tree.specs.Rules.{zeros, bytes, zeroFilled, goodName};
 ghost use Rattle.row.specs.Table.{rowAt, name, depth};

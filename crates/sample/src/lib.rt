@@ -2,7 +2,7 @@
 // with five bytes a row, as in `0d_0,1fa5,`: depth, kind (d, f or another), first byte of the name (_ for none), low word
 // of the size, and a comma.
 ghost use mathlib.Core.Path.{_≡_};
-ghost use Prim.Native.Nat.{ℕ, _≤_, _<_};
+ghost use Prim.Native.Nat.{_≤_, _<_};
 ghost use lib.ListN.{length};
 
 // A byte as a word.

@@ -6,9 +6,9 @@ use lib.ListN.{length}
 use Prim.Native.Nat.{Ordering, Ordering·eq, Ordering·gt, Ordering·lt, suc, zero, ℕ, _+_, _-_, _≤_}
 use Rattle.tree.specs.Forest.{Content, Forest, Forest.dir, Forest.end, Forest.leaf, Node, Node.folder, find, kids, TreePath, at}
 use Rattle.tree.specs.Name.{Name, byOrder, cmp}
-use Rattle.tree.specs.Rules.{Within, WithinNode, NameRule, ContentRule, WellFormed}
+use Rattle.tree.specs.Rules.{Within, WithinNode, NameRule, ContentRule, WellFormed, AllNames}
 use Rattle.tree.specs.Put.{put}
-use Rattle.tree.proofs.Rules.{under, under-length, NamesOf, within-find, within-kids, within-add, within-at, within-put}
+use Rattle.tree.proofs.Rules.{under, under-length, within-find, within-kids, within-add, within-at, within-put}
 use Rattle.tree.proofs.Forest.{sorted-kids, sorted-at}
 use Rattle.tree.proofs.Put.{sorted-put}
 use Rattle.settle.specs.Resume.{moved}
@@ -111,7 +111,7 @@ module _ (o l r : Forest) (wo : WellFormed o) (wl : WellFormed l) (wr : WellForm
   well-formed-archive = well-formed-new toArchive (settles archive)
 
 -- and so is the tree after a move along a path whose names keep the rule, of at most 16 of them
-pub well-formed-moved : (p : TreePath) (s t : Forest) → NamesOf NameRule ContentRule p → length p ≤ 16 → WellFormed s → WellFormed t → WellFormed (moved p s t)
+pub well-formed-moved : (p : TreePath) (s t : Forest) → AllNames NameRule p → length p ≤ 16 → WellFormed s → WellFormed t → WellFormed (moved p s t)
 well-formed-moved p s t n h ws wt =
     let k = 16 - length p in
     let e : under p k ≡ 16 = under-length p k ∙ (let z : length p + k ≡ 16 = omega arith in z) in

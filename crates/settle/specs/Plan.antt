@@ -1,7 +1,6 @@
 -- The plan: an item for each relevant path below the root, in preorder. A folder on both sides is settled by settling its
 -- entries; any other entry is one item with what the three trees hold there.
-use Prim.Native.Nat.{Ordering}
-use mathlib.Core.List.{List, [], _∷_}
+use mathlib.Core.List.{[], _∷_}
 use Rattle.tree.specs.Name.{Name, cmp, ifSame}
 use Rattle.tree.specs.Forest.{Forest, Forest.end, Forest.leaf, Forest.dir, Node, Node.absent, Node.file, Node.folder, find, kids}
 use Rattle.settle.specs.Names.{Names, names}

@@ -1,6 +1,6 @@
 // Prints answers, results and rows, for the programs that try the calls.
 use libc::STDOUT_FILENO;
-ghost use Prim.Native.Nat.{ℕ, _≤_, _<_};
+ghost use Prim.Native.Nat.{_≤_, _<_};
 
 // What stands in a result before a call.
 pub const CANARY: u32 = 0xC0FFEE11;

@@ -21,6 +21,7 @@ use Rattle.tree.proofs.Put.{find-update-same}
 use Rattle.row.proofs.Table.{drop-take}
 use Rattle.stands.proofs.Path.{leads, ruled-at}
 use Rattle.stands.proofs.Put.{put-entry, place-entry, end-entry, at-entry}
+use Rattle.stands.proofs.Around.{before-add}
 use Rattle.slot.specs.Insert.{inserted, spotOf, Last, Last.entry}
 use Rattle.slot.proofs.Spots.{spotAt, spot-found}
 
@@ -82,12 +83,6 @@ module _ (q : TreePath) (m : Name) (k : Forest) (w : List ℕ) (n d : ℕ) (root
       ∙ sym (put-entry q m k (take n w) d root x h e y ∙ rw (z, is))
 
 -- an entry that has been put in is the last
-before-add : (n m : Name) (y : Node) (s : Forest) → Present y → before n (add m y s) ≡ byOrder (cmp n m) end end (add m y (before n s))
-unfolding before
-before-add n m absent s p = absurd p
-before-add n m (file c) s p = refl
-before-add n m (folder k) s p = refl
-
 module _ (n : Name) (x : Node) (p : Present x) where
   before-step : (m : Name) (y : Node) (s : Forest) (o : Ordering) → cmp n m ≡ o → Present y → before n (update n x s) ≡ before n s
       → before n (byOrder o (add n x (add m y s)) (add n x s) (add m y (update n x s))) ≡ byOrder o end end (add m y (before n s))

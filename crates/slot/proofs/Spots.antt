@@ -8,18 +8,19 @@ use lib.Seq.{drop-drop, drop-append-add}
 use Prim.Native.Nat.{ℕ, suc, _+_, _<_, Ordering, Ordering·lt, Ordering·eq, Ordering·gt}
 use borrow.Author.Tests.{lt-ltb, le-ltb}
 use Rattle.tree.specs.Name.{Name, cmp, byOrder, ifSame}
-use Rattle.tree.specs.Forest.{Forest, Forest.end, Forest.leaf, Forest.dir, Node, Node.absent, Node.file, Node.folder, Above, Sorted, add, find, size, Present}
+use Rattle.tree.specs.Forest.{Forest, Forest.end, Forest.leaf, Forest.dir, Node, Node.absent, Node.file, Node.folder, Above, Sorted, add, find, size, Present, rowCount}
 use Rattle.tree.specs.Rules.{NameRule}
 use Rattle.row.specs.Table.{Row, rowAt, rows, name}
 use Rattle.row.specs.Tree.{fileRow, folderRow, rowsOf, nodeRows}
+use Rattle.row.proofs.Tree.{length-rows}
 use Rattle.find.specs.Entry.{place}
-use Rattle.stands.specs.Stands.{Ended, Stands, Ruled, rowCount}
+use Rattle.stands.specs.Stands.{Ended, Stands, Ruled}
 use Rattle.stands.specs.Around.{before}
 use Rattle.tree.proofs.Forest.{above-trans, find-above}
 use Rattle.tree.proofs.Order.{cmp-eq, cmp-flip, cmp-trans}
+use Rattle.tree.proofs.Size.{size-add}
 use Rattle.stands.proofs.Rows.{Head, head}
-use Rattle.stands.proofs.Forest.{length-rowsOf, file-name, folder-name}
-use Rattle.stands.proofs.Around.{size-add}
+use Rattle.stands.proofs.Forest.{file-name, folder-name}
 use Rattle.stands.proofs.Entry.{folder-place, stands-child}
 use Rattle.stands.proofs.Path.{ruled-find}
 use Rattle.slot.specs.Insert.{against, spotIn, searched, spotOf, Last, Last.none, Last.entry}
@@ -115,7 +116,7 @@ module _ (n a : Name) (d : ℕ) (past : cmp n a ≡ Ordering·gt) where
   pass i (dir m k s) rs r h p =
       let e : against d n (folderRow (suc d) m) ≡ cmp n m = against-entry d n (folderRow (suc d) m) refl ∙ rw (folder-name (suc d) m (r .0)) in
       rw (append-assoc (rowsOf (suc (suc d)) k) (rowsOf (suc d) s) rs)
-      (pass-step m (folder k) s (folderRow (suc d) m) (rowsOf (suc (suc d)) k) (rowsOf (suc d) s ++ rs) (size k) i e refl (length-rowsOf (suc (suc d)) k)
+      (pass-step m (folder k) s (folderRow (suc d) m) (rowsOf (suc (suc d)) k) (rowsOf (suc d) s ++ rs) (size k) i e refl (length-rows (suc (suc d)) k)
       (spot-deep n d (suc (suc d)) (suc i) k (rowsOf (suc d) s ++ rs) (omega arith)) (cmp a m) refl (h .0) p (λ q. pass (suc i + size k) s rs (r .2) (h .2) q))
 
 row-name : (w : List ℕ) (i d : ℕ) (a : Name) (x : Node) → Stands w i d a x → Present x → NameRule a → name (rowAt w i) ≡ a

@@ -1,6 +1,6 @@
 // A row put into its sorted place of a table: where a name goes among a folder's entries, and the row put in there.
 ghost use mathlib.Core.Path.{_≡_};
-ghost use Prim.Native.Nat.{ℕ, _+_, _*_, _-_, _≤_};
+ghost use Prim.Native.Nat.{_+_, _*_, _-_, _≤_};
 ghost use lib.ListN.{length, take, drop};
 ghost use Rattle.row.specs.Table.{rowAt, rows};
 ghost use Rattle.row.specs.Order.{ordered};

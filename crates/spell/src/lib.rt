@@ -2,7 +2,7 @@
 // the buffer's end is only counted, so that an empty buffer gives a piece's length.
 ghost use mathlib.Core.Path.{_≡_};
 ghost use mathlib.Core.List.{_∷_, []};
-ghost use Prim.Native.Nat.{ℕ, _+_, _*_, _≤_, _<_, _^_};
+ghost use Prim.Native.Nat.{_+_, _*_, _≤_, _<_, _^_};
 ghost use lib.ListN.{length, drop, getD};
 ghost use Rattle.tree.specs.Rules.{bytes};
 ghost use Rattle.listing.specs.Writing.{asItIs, spellByte, nameText, decimal, hexDigit, hex};

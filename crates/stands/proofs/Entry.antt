@@ -11,19 +11,21 @@ use lib.Seq.{drop-at, drop-drop}
 use Prim.Native.Nat.{ℕ, suc, _+_, _<_, Ordering, Ordering·lt, Ordering·eq, Ordering·gt}
 use borrow.Author.Tests.{lt-ltb, le-ltb, eq-eqb, ne-eqb}
 use Rattle.tree.specs.Name.{Name, cmp, byOrder, ifSame}
-use Rattle.tree.specs.Forest.{Content, Forest, Forest.end, Forest.leaf, Forest.dir, Node, Node.absent, Node.file, Node.folder, Above, Sorted, add, find, size, Present}
+use Rattle.tree.specs.Forest.{Content, Forest, Forest.end, Forest.leaf, Forest.dir, Node, Node.absent, Node.file, Node.folder, Above, Sorted, add, find, size, Present, rowCount}
 use Rattle.tree.specs.Same.{sameWords}
 use Rattle.row.specs.Table.{Row, rows}
 use Rattle.row.specs.Tree.{fileRow, folderRow, rowsOf, nodeRows}
+use Rattle.row.proofs.Tree.{length-rows}
 use Rattle.find.specs.declared.Found.the-variants.{Nothing}
 use Rattle.find.specs.Subtree.{endOf}
 use Rattle.find.specs.Entry.{Stop, Stop.entry, Stop.over, seek, among, found, row, child, upTo, place}
 use Rattle.tree.proofs.Forest.{find-above, above-trans}
-use Rattle.stands.specs.Stands.{Ended, Stands, rowCount, foundAt, Ruled}
+use Rattle.tree.proofs.Size.{size-add}
+use Rattle.stands.specs.Stands.{Ended, Stands, foundAt, Ruled}
 use Rattle.stands.specs.Around.{before, behind, endedBy, entryEnd}
 use Rattle.stands.proofs.Rows.{Head, head}
-use Rattle.stands.proofs.Forest.{length-rowsOf, ended-up, ended-rows, file-name, folder-name}
-use Rattle.stands.proofs.Around.{size-add, rows-split}
+use Rattle.stands.proofs.Forest.{ended-up, ended-rows, file-name, folder-name}
+use Rattle.stands.proofs.Around.{rows-split}
 use Rattle.stands.proofs.Subtree.{present-found, stands-end}
 
 -- where a search among siblings stops, the first of which stands at row i
@@ -134,7 +136,7 @@ module _ (w : List ℕ) (f d : ℕ) (m : Name) (k : Forest) (s : Stands w f d m 
           let z = rowsOf (suc d) (behind n k) in
           sym (drop-drop (size (before n k)) (f + 1) (rows w))
           ∙ ap (drop (size (before n k))) (after .next ∙ ap (λ (rs : List Row). rs ++ s .rest) (rows-split (suc d) n k h) ∙ append-assoc b (y ++ z) (s .rest))
-          ∙ drop-at b ((y ++ z) ++ s .rest) (size (before n k)) (length-rowsOf (suc d) (before n k))
+          ∙ drop-at b ((y ++ z) ++ s .rest) (size (before n k)) (length-rows (suc d) (before n k))
           ∙ append-assoc y z (s .rest);
       ended = ended-rows (suc d) (behind n k) (s .rest) (ended-up d (s .rest) (s .ended));
     }

@@ -1,5 +1,5 @@
 -- The rows of a forest: how many there are, how deep they stand, and that each has its name and its twenty words.
-use mathlib.Core.Path.{_≡_, refl, ap, _∙_}
+use mathlib.Core.Path.{_≡_, refl, ap}
 use mathlib.Core.List.{List, [], _∷_, _++_, append-assoc}
 use native.Mathlib.Omega.{arith}
 use lib.ListN.{length, drop, length-append, length-drop}
@@ -7,25 +7,20 @@ use lib.Seq.{take-at}
 use Prim.Native.Nat.{ℕ, zero, suc, _+_, _<_}
 use borrow.Author.Tests.{lt-ltb, le-ltb}
 use Rattle.tree.specs.Name.{Name}
-use Rattle.tree.specs.Forest.{Content, Forest, Forest.end, Forest.leaf, Forest.dir, Node, Node.absent, Node.file, Node.folder, size}
+use Rattle.tree.specs.Forest.{Content, Forest, Forest.end, Forest.leaf, Forest.dir, Node, Node.absent, Node.file, Node.folder, size, rowCount}
 use Rattle.tree.specs.Rules.{NameRule, ContentRule, Within}
 use Rattle.row.specs.Table.{Row, name}
 use Rattle.row.specs.Tree.{fileRow, folderRow, rowsOf, nodeRows}
 use Rattle.find.specs.Subtree.{run}
 use Rattle.row.proofs.Flat.{Whole, whole-append}
-use Rattle.stands.specs.Stands.{Ended, rowCount, Ruled, RuledNode}
-
-pub length-rowsOf : (d : ℕ) (f : Forest) → length (rowsOf d f) ≡ size f
-unfolding rowsOf size
-length-rowsOf d end = refl
-length-rowsOf d (leaf n c s) = ap suc (length-rowsOf d s)
-length-rowsOf d (dir n k s) = ap suc (length-append (rowsOf (suc d) k) (rowsOf d s) ∙ rw (length-rowsOf (suc d) k, length-rowsOf d s))
+use Rattle.row.proofs.Tree.{length-rows}
+use Rattle.stands.specs.Stands.{Ended, Ruled, RuledNode}
 
 pub length-nodeRows : (d : ℕ) (n : Name) (x : Node) → length (nodeRows d n x) ≡ rowCount x
 unfolding nodeRows
 length-nodeRows d n absent = refl
 length-nodeRows d n (file c) = refl
-length-nodeRows d n (folder k) = ap suc (length-rowsOf (suc d) k)
+length-nodeRows d n (folder k) = ap suc (length-rows (suc d) k)
 
 -- depths
 pub ended-up : (d : ℕ) (rs : List Row) → Ended d rs → Ended (suc d) rs

@@ -11,9 +11,9 @@ use Rattle.tree.specs.Rules.{NameRule}
 use Rattle.find.specs.declared.Found.{Found}
 use Rattle.find.specs.declared.Found.the-variants.{At, Nothing}
 use Rattle.find.specs.Subtree.{subtree}
-use Rattle.path.specs.Follow.{further, onward, follow}
+use Rattle.follow.specs.Follow.{further, onward, follow}
 use Rattle.tree.proofs.Order.{cmp-eq}
-use Rattle.tree.proofs.Forest.{sorted-find}
+use Rattle.tree.proofs.Forest.{sorted-find, at-absent}
 use Rattle.stands.specs.Stands.{Stands, foundAt, Ruled, RuledNode, Holds, Leads}
 use Rattle.stands.specs.Around.{before, rowIn, nameOn}
 use Rattle.stands.proofs.Subtree.{present-found, stands-words, stands-whole}
@@ -43,11 +43,6 @@ ruled-at (n ∷ p) (folder k) r = ruled-at p (find n k) (either (find n k) (λ h
     either absent h = tt
     either (file c) h = h tt
     either (folder j) h = h tt
-
-pub at-absent : (p : TreePath) → at absent p ≡ absent
-unfolding at find
-at-absent [] = refl
-at-absent (n ∷ p) = at-absent p
 
 further-found : (i j k : ℕ) (x : Node) → i + j ≡ k → further i (foundAt x j) ≡ foundAt x k
 further-found i j k absent e = refl

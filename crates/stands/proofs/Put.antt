@@ -6,21 +6,23 @@ use native.Mathlib.Nat.{add-zero, zero-add}
 use lib.ListN.{length, take, drop, length-append}
 use Prim.Native.Nat.{ℕ, suc, _+_, _*_}
 use Rattle.tree.specs.Name.{Name}
-use Rattle.tree.specs.Forest.{TreePath, Forest, Node, Node.absent, Node.file, Node.folder, SortedNode, at, find, kids, size}
-use Rattle.tree.specs.Put.{update, put}
+use Rattle.tree.specs.Forest.{TreePath, Forest, Node, Node.absent, Node.file, Node.folder, at, find, kids, size, rowCount}
+use Rattle.tree.specs.Put.{update, put, Reaches}
 use Rattle.row.specs.Table.{Row, flat}
 use Rattle.row.specs.Tree.{folderRow, rowsOf, nodeRows}
 use Rattle.find.specs.Entry.{place}
-use Rattle.tree.proofs.Forest.{sorted-find, sorted-at}
+use Rattle.tree.proofs.Forest.{sorted-at}
+use Rattle.tree.proofs.Put.{put-at, reaches-entry}
 use Rattle.row.proofs.Flat.{Whole, flat-append, length-flat}
-use Rattle.stands.specs.Stands.{Stands, rowCount, Ruled, Holds}
-use Rattle.stands.specs.Around.{before, behind, entryEnd, rowIn, nameOn, Reaches, front, back}
+use Rattle.row.proofs.Tree.{length-rows}
+use Rattle.stands.specs.Stands.{Stands, Ruled, Holds}
+use Rattle.stands.specs.Around.{before, behind, entryEnd, rowIn, nameOn, front, back}
 use Rattle.stands.proofs.Rows.{cut, whole-front, whole-back}
-use Rattle.stands.proofs.Forest.{length-rowsOf, length-nodeRows, wide-nodeRows}
-use Rattle.stands.proofs.Around.{update-find, rows-update}
+use Rattle.stands.proofs.Forest.{length-nodeRows, wide-nodeRows}
+use Rattle.stands.proofs.Around.{rows-update}
 use Rattle.stands.proofs.Entry.{folder-place, folder-end}
 use Rattle.stands.proofs.Subtree.{stands-whole}
-use Rattle.stands.proofs.Path.{at-absent, ruled-at, stands-at}
+use Rattle.stands.proofs.Path.{ruled-at, stands-at}
 
 -- the rows of a node with y put at a path, in three pieces
 pub put-rows : (p : TreePath) (d : ℕ) (m : Name) (y x : Node) → Reaches p x
@@ -38,25 +40,14 @@ put-rows (n ∷ p) d m y (folder k) h = whole (put p y (find n k)) (put-rows p (
         → nodeRows d m (folder (update n z k)) ≡ folderRow d m ∷ ((rowsOf (suc d) (before n k) ++ front (suc d) n (find n k) p) ++ (nodeRows (d + suc (length p)) (nameOn n p) y ++ (back (suc d) (find n k) p ++ rowsOf (suc d) (behind n k))))
     whole z q = ap (λ (rs : List Row). folderRow d m ∷ rs) (rows-update (suc d) n z k ∙ rw (q, e) (simp append-assoc))
 
-never : {k : Forest} → absent ≡ folder k → ⊥
-never e = let z : _≡_ {A = ℕ} 0 1 = cc in omega arith
-
 flat-three : (a b c : List Row) → flat (a ++ (b ++ c)) ≡ flat a ++ (flat b ++ flat c)
 flat-three a b c = rw (flat-append a (b ++ c), flat-append b c)
-
--- what stands there already, put there
-pub put-at : (p : TreePath) (x : Node) → SortedNode x → put p (at x p) x ≡ x
-unfolding put at
-put-at [] x h = refl
-put-at (n ∷ p) absent h = refl
-put-at (n ∷ p) (file c) h = refl
-put-at (n ∷ p) (folder k) h = ap folder (rw (put-at p (find n k) (sorted-find n k h)) (update-find n k h))
 
 pub length-front : (p : TreePath) (d : ℕ) (m : Name) (x : Node) → length (front d m x p) ≡ rowIn x p
 unfolding front rowIn
 length-front [] d m x = refl
 length-front (n ∷ p) d m x =
-    ap suc (length-append (rowsOf (suc d) (before n (kids x))) (front (suc d) n (find n (kids x)) p) ∙ ap₂ _+_ (length-rowsOf (suc d) (before n (kids x))) (length-front p (suc d) n (find n (kids x))))
+    ap suc (length-append (rowsOf (suc d) (before n (kids x))) (front (suc d) n (find n (kids x)) p) ∙ ap₂ _+_ (length-rows (suc d) (before n (kids x))) (length-front p (suc d) n (find n (kids x))))
 
 -- the words before a path's node, its own, and those after it
 module _ (p : TreePath) (w : List ℕ) (d : ℕ) (m : Name) (x : Node) (h : Holds w d m x) (g : Reaches p x) where
@@ -79,13 +70,6 @@ module _ (n : Name) (k : Forest) where
   unfolding at
   at-entry [] x e = rw e
   at-entry (m ∷ q) x e = at-entry q (find m (kids x)) e
-
-  pub reaches-entry : (q : TreePath) (x : Node) → at x q ≡ folder k → Reaches (q ++ (n ∷ [])) x
-  unfolding at Reaches find
-  reaches-entry [] x e = rw e tt
-  reaches-entry (m ∷ q) absent e = absurd (never (sym (at-absent q) ∙ e))
-  reaches-entry (m ∷ q) (file c) e = absurd (never (sym (at-absent q) ∙ e))
-  reaches-entry (m ∷ q) (folder j) e = reaches-entry q (find m j) e
 
   pub row-entry : (q : TreePath) (x : Node) → at x q ≡ folder k → rowIn x (q ++ (n ∷ [])) ≡ rowIn x q + 1 + size (before n k)
   unfolding at rowIn

@@ -4,17 +4,18 @@ use mathlib.Core.List.{List, [], _∷_, _++_, append-nil}
 use native.Mathlib.Omega.{arith}
 use lib.ListN.{length, take, drop, length-append}
 use lib.Seq.{take-at}
-use Prim.Native.Nat.{ℕ, suc, _+_, _*_, _-_, _/_, _%_, _≤_, _<_}
+use Prim.Native.Nat.{ℕ, suc, _+_, _*_, _-_, _/_, _%_, _≤_}
 use Rattle.tree.specs.Name.{Name}
-use Rattle.tree.specs.Forest.{Forest, Node, Node.absent, Node.file, Node.folder, size, Present}
+use Rattle.tree.specs.Forest.{Forest, Node, Node.absent, Node.file, Node.folder, size, Present, rowCount}
 use Rattle.tree.specs.Rules.{WellFormed}
+use Rattle.tree.proofs.Size.{some-rows}
 use Rattle.row.specs.Table.{Row, rows, flat, depth}
 use Rattle.row.specs.Tree.{folderRow, fileRow, rowsOf, nodeRows, rootName, table}
 use Rattle.find.specs.declared.Found.the-variants.{At}
 use Rattle.find.specs.Subtree.{run, endOf, subtree}
 use Rattle.find.proofs.Walk.{subtree-none}
 use Rattle.row.proofs.Flat.{rows-flat}
-use Rattle.stands.specs.Stands.{Stands, StandsOr, rowCount, foundAt, Holds}
+use Rattle.stands.specs.Stands.{Stands, StandsOr, foundAt, Holds}
 use Rattle.stands.proofs.Rows.{words-rows, length-rows-from, head}
 use Rattle.stands.proofs.Forest.{length-nodeRows, run-ended, run-rows, wide-nodeRows, ruled-within}
 
@@ -37,11 +38,6 @@ stands-end w i d n (file c) s p = ends w i d 0 (fileRow d n c) (s .rest) (s .her
 stands-end w i d n (folder k) s p =
     ends w i d (size k) (folderRow d n) (rowsOf (suc d) k ++ s .rest) (s .here) refl
     (run-rows d (suc d) k (s .rest) (omega arith) ∙ (let e = run-ended d (s .rest) (s .ended) in omega arith))
-
-some-rows : (x : Node) → Present x → 0 < rowCount x
-some-rows absent p = absurd p
-some-rows (file c) p = omega arith
-some-rows (folder k) p = omega arith
 
 -- and its words are theirs
 pub stands-words : (w : List ℕ) (i d : ℕ) (n : Name) (x : Node) → Stands w i d n x → Present x → subtree w i ≡ flat (nodeRows d n x)

@@ -2,7 +2,7 @@
 use mathlib.Core.List.{List, [], _∷_, _++_}
 use Prim.Native.Nat.{ℕ, suc, _+_}
 use Rattle.tree.specs.Name.{Name, cmp, byOrder}
-use Rattle.tree.specs.Forest.{Forest, Forest.end, Forest.leaf, Forest.dir, Node, Node.absent, Node.file, Node.folder, TreePath, find, kids, size}
+use Rattle.tree.specs.Forest.{Forest, Forest.end, Forest.leaf, Forest.dir, Node, TreePath, find, kids, size}
 use Rattle.row.specs.Table.{Row}
 use Rattle.row.specs.Tree.{rowsOf, folderRow}
 use Rattle.find.specs.declared.Found.{Found}
@@ -40,13 +40,6 @@ rowIn x (n ∷ p) = suc (size (before n (kids x)) + rowIn (find n (kids x)) p)
 unfoldable pub nameOn : Name → TreePath → Name
 nameOn m [] = m
 nameOn m (n ∷ p) = nameOn n p
-
--- every node on the path but the last is a folder
-unfoldable pub Reaches : TreePath → Node → Type 0
-Reaches [] x = Unit {0}
-Reaches (n ∷ p) absent = ⊥
-Reaches (n ∷ p) (file c) = ⊥
-Reaches (n ∷ p) (folder k) = Reaches p (find n k)
 
 -- the rows of x, called m and at depth d, before those of the node at a path
 unfoldable pub front : ℕ → Name → Node → TreePath → List Row

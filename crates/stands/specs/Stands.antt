@@ -2,16 +2,16 @@
 use mathlib.Core.Path.{_≡_}
 use mathlib.Core.List.{List, [], _∷_, _++_}
 use lib.ListN.{length, drop}
-use Prim.Native.Nat.{ℕ, suc, _/_, _≤_}
+use Prim.Native.Nat.{ℕ, _/_, _≤_}
 use Rattle.tree.specs.Name.{Name}
-use Rattle.tree.specs.Forest.{Forest, Forest.end, Forest.leaf, Forest.dir, Node, Node.absent, Node.file, Node.folder, SortedNode, TreePath, size, Present}
+use Rattle.tree.specs.Forest.{Forest, Forest.end, Forest.leaf, Forest.dir, Node, Node.absent, Node.file, Node.folder, SortedNode, TreePath, Present}
 use Rattle.tree.specs.Rules.{NameRule, ContentRule}
 use Rattle.row.specs.Table.{Row, rows, flat, depth}
 use Rattle.row.specs.Tree.{nodeRows}
 use Rattle.find.specs.declared.Found.{Found}
 use Rattle.find.specs.declared.Found.the-variants.{At, Nothing}
 use Rattle.find.specs.Subtree.{subtree}
-use Rattle.path.specs.Follow.{follow}
+use Rattle.follow.specs.Follow.{follow}
 
 -- the rows, if there are any, start with one that is not deeper than d
 abbrev pub Ended : ℕ → List Row → Type 0
@@ -29,12 +29,6 @@ abbrev pub StandsOr : List ℕ → ℕ → ℕ → Name → Node → Type 0
 StandsOr w i d n absent = length w / 20 ≤ i
 StandsOr w i d n (file c) = Stands w i d n (file c)
 StandsOr w i d n (folder k) = Stands w i d n (folder k)
-
--- the rows of a node
-abbrev pub rowCount : Node → ℕ
-rowCount absent = 0
-rowCount (file c) = 1
-rowCount (folder k) = suc (size k)
 
 -- what a search that comes to row i finds, where x is to stand there
 abbrev pub foundAt : Node → ℕ → Found

@@ -1,6 +1,6 @@
 // The tally: how many entries of each kind a list has.
 ghost use mathlib.Core.Path.{_≡_};
-ghost use Prim.Native.Nat.{ℕ, _*_, _≤_};
+ghost use Prim.Native.Nat.{_*_, _≤_};
 ghost use lib.ListN.{length};
 ghost use Rattle.tally.specs.Count.{counted, countedAll};
 

@@ -4,7 +4,7 @@
 //   many WORDS COUNT STEP   folders in a root, in an order that the step gives
 //   file WORDS NAME         a listing in a file
 ghost use mathlib.Core.Path.{_≡_};
-ghost use Prim.Native.Nat.{ℕ, _≤_, _<_};
+ghost use Prim.Native.Nat.{_≤_, _<_};
 ghost use lib.ListN.{length};
 
 // A byte at the end of the n bytes of a text; how many there are then.

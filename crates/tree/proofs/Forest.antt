@@ -105,3 +105,9 @@ pub sorted-at : (p : TreePath) (x : Node) → SortedNode x → SortedNode (at x 
 unfolding at
 sorted-at [] x h = h
 sorted-at (n ∷ p) x h = sorted-at p (find n (kids x)) (sorted-child n x h)
+
+-- beneath nothing there is nothing
+pub at-absent : (p : TreePath) → at absent p ≡ absent
+unfolding at find
+at-absent [] = refl
+at-absent (n ∷ p) = at-absent p

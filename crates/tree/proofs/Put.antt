@@ -1,13 +1,13 @@
 -- A subtree put at a path: what stands there then, what stands elsewhere, and that the order stays.
 use mathlib.Core.Path.{_≡_, refl, ap, _∙_, sym}
-use mathlib.Core.List.{[], _∷_}
+use mathlib.Core.List.{[], _∷_, _++_}
 use Prim.Native.Nat.{Ordering, Ordering·lt, Ordering·eq, Ordering·gt}
 use Rattle.tree.specs.Name.{Name, cmp, byOrder, ifSame}
-use Rattle.tree.specs.Forest.{TreePath, Forest, Forest.end, Node, Node.absent, Node.file, Node.folder, find, at, add, Above, Sorted, SortedNode, Present}
-use Rattle.tree.specs.Put.{update, put}
+use Rattle.tree.specs.Forest.{TreePath, Forest, Forest.end, Node, Node.absent, Node.file, Node.folder, find, kids, at, add, Above, Sorted, SortedNode, Present}
+use Rattle.tree.specs.Put.{update, put, Reaches, Part}
 use Rattle.tree.proofs.Never.{never}
 use Rattle.tree.proofs.Order.{flip, cmp-eq, cmp-flip}
-use Rattle.tree.proofs.Forest.{siblings-ind, find-add, above-parts, above-add, sorted-parts, sorted-add, above-trans, find-above, find-add-same, Differ, find-add-other, sorted-find}
+use Rattle.tree.proofs.Forest.{siblings-ind, find-add, above-parts, above-add, sorted-parts, sorted-add, above-trans, find-above, find-add-same, Differ, find-add-other, sorted-find, at-absent}
 
 pub update-add : (n m : Name) (x y : Node) (s : Forest) → Present y
     → update n x (add m y s) ≡ byOrder (cmp n m) (add n x (add m y s)) (add n x s) (add m y (update n x s))
@@ -70,26 +70,13 @@ module _ (n : Name) (x : Node) where
           go Ordering·eq e = find-add-other k n x s d ∙ sym (find-add-other k m y s (rw (cmp-eq n m e) at d))
           go Ordering·gt e = rw (find-add k m y (update n x s) h, find-add k m y s h, ih)
 
--- the path's parent is a folder
-unfoldable pub Open : TreePath → Node → Type 0
-Open [] t = Unit {0}
-Open (n ∷ p) absent = ⊥
-Open (n ∷ p) (file c) = ⊥
-Open (n ∷ p) (folder f) = Open p (find n f)
-
-pub put-here : (p : TreePath) (x t : Node) → SortedNode t → Open p t → at (put p x t) p ≡ x
-unfolding put at Open
+pub put-here : (p : TreePath) (x t : Node) → SortedNode t → Reaches p t → at (put p x t) p ≡ x
+unfolding put at Reaches
 put-here [] x t st h = refl
 put-here (n ∷ p) x absent st h = absurd h
 put-here (n ∷ p) x (file c) st h = absurd h
 put-here (n ∷ p) x (folder f) st h =
     rw (find-update-same n (put p x (find n f)) f st) (put-here p x (find n f) (sorted-find n f st) h)
-
--- two paths part where their names first differ
-unfoldable pub Part : TreePath → TreePath → Type 0
-Part [] q = ⊥
-Part (n ∷ p) [] = ⊥
-Part (n ∷ p) (m ∷ q) = ifSame (cmp m n) (Part p q) (Unit {0})
 
 pub put-elsewhere : (p q : TreePath) (x t : Node) → SortedNode t → Part p q → at (put p x t) q ≡ at t q
 unfolding put at Part
@@ -114,3 +101,40 @@ sorted-put [] x t sx st = sx
 sorted-put (n ∷ p) x absent sx st = tt
 sorted-put (n ∷ p) x (file c) sx st = tt
 sorted-put (n ∷ p) x (folder f) sx st = sorted-update n (put p x (find n f)) (sorted-put p x (find n f) sx (sorted-find n f st)) f st
+
+-- an entry changed to itself
+pub update-find : (n : Name) (f : Forest) → Sorted f → update n (find n f) f ≡ f
+unfolding update find
+update-find n = siblings-ind (λ (f : Forest). Sorted f → update n (find n f) f ≡ f) (λ h. refl) more
+  where
+    more : (m : Name) (y : Node) (s : Forest) → Present y → (Sorted s → update n (find n s) s ≡ s) → Sorted (add m y s)
+        → update n (find n (add m y s)) (add m y s) ≡ add m y s
+    more m y s p ih h = rw (find-add n m y s p) (update-add n m (ifSame (cmp n m) y (find n s)) y s p ∙ go (cmp n m) refl)
+      where
+        go : (w : Ordering) → cmp n m ≡ w
+            → byOrder w (add n (ifSame w y (find n s)) (add m y s)) (add n (ifSame w y (find n s)) s) (add m y (update n (ifSame w y (find n s)) s)) ≡ add m y s
+        go Ordering·lt e = rw (find-above n s (above-trans n m e s (sorted-parts m y s p h .0)))
+        go Ordering·eq e = rw (cmp-eq n m e)
+        go Ordering·gt e = ap (add m y) (ih (sorted-parts m y s p h .2))
+
+-- what stands there already, put there
+pub put-at : (p : TreePath) (x : Node) → SortedNode x → put p (at x p) x ≡ x
+unfolding put at
+put-at [] x h = refl
+put-at (n ∷ p) absent h = refl
+put-at (n ∷ p) (file c) h = refl
+put-at (n ∷ p) (folder k) h = ap folder (rw (put-at p (find n k) (sorted-find n k h)) (update-find n k h))
+
+-- what is put below a folder leaves it a folder
+pub put-folder : (p : TreePath) (n : Name) (x : Node) (f : Forest) → folder (kids (put (p ++ (n ∷ [])) x (folder f))) ≡ put (p ++ (n ∷ [])) x (folder f)
+unfolding put
+put-folder [] n x f = refl
+put-folder (m ∷ p) n x f = refl
+
+-- an entry of a folder that stands at a path
+pub reaches-entry : (n : Name) (k : Forest) (p : TreePath) (x : Node) → at x p ≡ folder k → Reaches (p ++ (n ∷ [])) x
+unfolding at Reaches find
+reaches-entry n k [] x e = rw e tt
+reaches-entry n k (m ∷ p) absent e = let z = at-absent p in never (cc)
+reaches-entry n k (m ∷ p) (file c) e = let z = at-absent p in never (cc)
+reaches-entry n k (m ∷ p) (folder j) e = reaches-entry n k p (find m j) e

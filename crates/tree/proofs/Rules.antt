@@ -1,13 +1,13 @@
 -- The rules for names, contents and depth, kept by finding, adding and putting.
-use mathlib.Core.Path.{_≡_}
-use mathlib.Core.List.{[], _∷_}
+use mathlib.Core.Path.{_≡_, refl}
+use mathlib.Core.List.{List, [], _∷_}
 use native.Mathlib.Omega.{arith}
 use lib.ListN.{length}
-use Prim.Native.Nat.{ℕ, suc, _+_, Ordering, Ordering·lt, Ordering·eq, Ordering·gt}
+use Prim.Native.Nat.{ℕ, suc, _+_, _*_, Ordering, Ordering·lt, Ordering·eq, Ordering·gt}
 use Rattle.tree.specs.Name.{Name, cmp, ifSame, byOrder}
 use Rattle.tree.specs.Forest.{Content, TreePath, Forest, Forest.end, Node, Node.absent, Node.file, Node.folder, find, kids, at, add, Present}
 use Rattle.tree.specs.Put.{update, put}
-use Rattle.tree.specs.Rules.{Within, WithinNode}
+use Rattle.tree.specs.Rules.{Within, WithinNode, AllNames, bytes}
 use Rattle.tree.proofs.Forest.{siblings-ind, find-add}
 use Rattle.tree.proofs.Put.{update-add}
 
@@ -20,6 +20,11 @@ pub under-length : (p : TreePath) (k : ℕ) → under p k ≡ length p + k
 unfolding under
 under-length [] k = omega arith
 under-length (n ∷ p) k = let e = under-length p k in omega arith
+
+pub length-bytes : (w : List ℕ) → length (bytes w) ≡ 4 * length w
+unfolding bytes
+length-bytes [] = refl
+length-bytes (x ∷ xs) = omega (arith, length-bytes xs)
 
 module _ (P : Name → Type 0) (Q : Content → Type 0) where
   pub within-parts : (d : ℕ) (m : Name) (y : Node) (s : Forest) → Present y → Within P Q (suc d) (add m y s)
@@ -70,19 +75,14 @@ module _ (P : Name → Type 0) (Q : Content → Type 0) where
           go Ordering·eq p = within-add d n x s pn wx (p .2)
           go Ordering·gt p = within-add d m y (update n x s) (p .0) (p .1) (ih (p .2))
 
-  -- the rule of every name of a path
-  unfoldable pub NamesOf : TreePath → Type 0
-  NamesOf [] = Unit {0}
-  NamesOf (n ∷ p) = P n × NamesOf p
-
   pub within-at : (k : ℕ) (p : TreePath) (t : Node) → WithinNode P Q (under p k) t → WithinNode P Q k (at t p)
   unfolding at under
   within-at k [] t w = w
   within-at k (n ∷ p) t w = within-at k p (find n (kids t)) (within-find (under p k) n (kids t) (within-kids (suc (under p k)) t w))
 
-  pub within-put : (k : ℕ) (p : TreePath) (x t : Node) → NamesOf p → WithinNode P Q k x → WithinNode P Q (under p k) t
+  pub within-put : (k : ℕ) (p : TreePath) (x t : Node) → AllNames P p → WithinNode P Q k x → WithinNode P Q (under p k) t
       → WithinNode P Q (under p k) (put p x t)
-  unfolding put NamesOf under
+  unfolding put AllNames under
   within-put k [] x t h wx wt = wx
   within-put k (n ∷ p) x absent h wx wt = tt
   within-put k (n ∷ p) x (file c) h wx wt = wt

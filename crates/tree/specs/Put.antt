@@ -1,6 +1,6 @@
 -- A move: the subtree at a path becomes another, absence included.
-use mathlib.Core.List.{List, [], _∷_}
-use Rattle.tree.specs.Name.{Name, cmp, byOrder}
+use mathlib.Core.List.{[], _∷_}
+use Rattle.tree.specs.Name.{Name, cmp, byOrder, ifSame}
 use Rattle.tree.specs.Forest.{TreePath, Forest, Forest.end, Forest.leaf, Forest.dir, Node, Node.absent, Node.file, Node.folder, find, add}
 
 -- the entry called n becomes x
@@ -15,3 +15,16 @@ put [] x t = x
 put (n ∷ p) x absent = absent
 put (n ∷ p) x (file c) = file c
 put (n ∷ p) x (folder f) = folder (update n (put p x (find n f)) f)
+
+-- every node on the path but the last is a folder
+unfoldable pub Reaches : TreePath → Node → Type 0
+Reaches [] t = Unit {0}
+Reaches (n ∷ p) absent = ⊥
+Reaches (n ∷ p) (file c) = ⊥
+Reaches (n ∷ p) (folder f) = Reaches p (find n f)
+
+-- two paths part where their names first differ
+unfoldable pub Part : TreePath → TreePath → Type 0
+Part [] q = ⊥
+Part (n ∷ p) [] = ⊥
+Part (n ∷ p) (m ∷ q) = ifSame (cmp m n) (Part p q) (Unit {0})

@@ -6,7 +6,7 @@ use lib.Dec.{eqb}
 use lib.ListN.{length, getD}
 use Prim.Native.Nat.{ℕ, zero, suc, _/_, _%_, _<_}
 use Rattle.tree.specs.Name.{Name}
-use Rattle.tree.specs.Forest.{Content, Forest, Forest.end, Forest.leaf, Forest.dir, Node, Node.absent, Node.file, Node.folder, Sorted}
+use Rattle.tree.specs.Forest.{Content, TreePath, Forest, Forest.end, Forest.leaf, Forest.dir, Node, Node.absent, Node.file, Node.folder, Sorted}
 
 -- every word is one of 32 bits
 unfoldable pub Words32 : List ℕ → Type 0
@@ -56,6 +56,11 @@ abbrev pub WithinNode : (Name → Type 0) → (Content → Type 0) → ℕ → N
 WithinNode P Q d absent = Unit {0}
 WithinNode P Q d (file c) = Q c
 WithinNode P Q d (folder k) = Within P Q d k
+
+-- P of every name of a path
+unfoldable pub AllNames : (Name → Type 0) → TreePath → Type 0
+AllNames P [] = Unit {0}
+AllNames P (n ∷ p) = P n × AllNames P p
 
 pub record WellFormed (f : Forest) : Type 0 where
   pub sorted : Sorted f

@@ -1,6 +1,6 @@
 -- A tree as TR 507 sees one (its section 2): a function from every path to nothing, the mark of a folder, or a file.
 use mathlib.Core.Path.{_≡_}
-use mathlib.Core.List.{List, [], _∷_, _++_}
+use mathlib.Core.List.{[], _∷_, _++_}
 use Prim.Native.Nat.{ℕ, _<_}
 use lib.ListN.{length}
 use Rattle.tree.specs.Name.{Name}

@@ -4,7 +4,7 @@
 // The cases are those of the crate `texts`, and the words in each are the room that is lent: they hold something else before the
 // call.
 ghost use mathlib.Core.Path.{_≡_};
-ghost use Prim.Native.Nat.{ℕ, _<_};
+ghost use Prim.Native.Nat.{_<_};
 ghost use lib.ListN.{length};
 use libc::STDIN_FILENO;
 use libc::STDOUT_FILENO;

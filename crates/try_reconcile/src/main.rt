@@ -5,7 +5,7 @@
 use libc::STDIN_FILENO;
 use reconcile::Ran;
 use tally::Tally;
-ghost use Prim.Native.Nat.{ℕ, _≤_};
+ghost use Prim.Native.Nat.{_≤_};
 
 // The words of a room, in field k of a line.
 fn room(line: &[u8], k: usize, most: usize) -> usize

@@ -5,7 +5,7 @@
 //   entry LEFT RIGHT KIND LEFTROW RIGHTROW
 // A change is FROM TO VALUE: the words from one place to another become a value.
 ghost use mathlib.Core.Path.{_≡_};
-ghost use Prim.Native.Nat.{ℕ, _<_};
+ghost use Prim.Native.Nat.{_<_};
 ghost use lib.ListN.{length};
 use libc::STDIN_FILENO;
 

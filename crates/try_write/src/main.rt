@@ -1,7 +1,7 @@
 // Writes a listing with every byte that a name may hold, sizes at their limits, an empty folder and a path of depth 16,
 // and tells the answers as comments: this one's, for one byte too few, for a bad row, and for a word too few.
 ghost use mathlib.Core.Path.{_≡_};
-ghost use Prim.Native.Nat.{ℕ, _<_};
+ghost use Prim.Native.Nat.{_<_};
 ghost use lib.ListN.{length};
 use libc::STDOUT_FILENO;
 

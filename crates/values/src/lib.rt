@@ -1,6 +1,6 @@
 // What a word says besides a name: a keyword, where its value begins, a size, a digest.
 ghost use mathlib.Core.Path.{_≡_};
-ghost use Prim.Native.Nat.{ℕ, _<_};
+ghost use Prim.Native.Nat.{_<_};
 ghost use lib.ListN.{length, take};
 ghost use Rattle.tree.specs.Same.{sameWords};
 ghost use Rattle.listing.specs.Words.{keyLen};

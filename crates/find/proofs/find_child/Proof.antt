@@ -8,9 +8,10 @@ use lib.ListN.{length, drop, getD}
 use Prim.Native.Nat.{ℕ, _+_, _*_, _-_, _≤_, _<_}
 use borrow.Author.Needs.{needs}
 use Rattle.tree.specs.Same.{sameWords}
+use Rattle.tree.proofs.Same.{sameWords-false}
 use Rattle.row.specs.Table.{rows, rowAt, name as nameR}
 use Rattle.row.proofs.Table.{depth-at, name-length, name-word}
-use Rattle.row.proofs.Compare.{same-next, same-differ, same-end}
+use Rattle.row.proofs.Compare.{same-next, same-end}
 use Rattle.find.specs.Entry.{seek, found, child}
 use Rattle.find.proofs.Walk.{seek-end, seek-stop, seek-deep, seek-other, seek-here}
 use Rattle.find.proofs.find_child.Statement.{statement}
@@ -71,7 +72,7 @@ rows-again c =
     let k = x .1 .k in
     let k8 : k < 8 = omega (arith, x .1 .inv .0, x .2 .left) in
     seek-other p w d i (search needs) (x .0 .taken)
-    (same-differ (a .t3) (nameOf w i) (λ e. x .4 .taken (sym (name-word w i k k8) ∙ sym (ap (λ (v : List ℕ). getD v k 0) e)))))
+    (sameWords-false (a .t3) (nameOf w i) (λ e. x .4 .taken (sym (name-word w i k k8) ∙ sym (ap (λ (v : List ℕ). getD v k 0) e)))))
     (λ x. seek-deep p w d i (search needs) (search needs) (x .left))
     (c .if2 .came) in
     (search needs, l .rows .inv .1 ∙ next)

@@ -5,12 +5,12 @@ use Prim.Native.Nat.{ℕ, _<_}
 use borrow.Author.Needs.{needs}
 use borrow.Fn.Kinds.{In}
 use borrow.Fn.PlainCycle.{Measures, is, falls, and}
-use Rattle.path.proofs.Follow.{inside-at, part-length, follow-none, follow-lost, follow-on}
-use Rattle.path.proofs.+lookup.{statement}
-use Rattle.path.proofs.+lookup.Tie.{close}
-use Rattle.path.proofs.lookup.Reads as lookup
-use Rattle.path.proofs.lookup.Kinds as lookup-kinds
-use Rattle.path.proofs.+lookup.Lts-lookup as lookup-lts
+use Rattle.follow.proofs.Follow.{inside-at, part-length, follow-none, follow-lost, follow-on}
+use Rattle.follow.proofs.+lookup.{statement}
+use Rattle.follow.proofs.+lookup.Tie.{close}
+use Rattle.follow.proofs.lookup.Reads as lookup
+use Rattle.follow.proofs.lookup.Kinds as lookup-kinds
+use Rattle.follow.proofs.+lookup.Lts-lookup as lookup-lts
 use Rattle.find.proofs.find_child.Reads as find-child-reads
 use Rattle.find.proofs.subtree_end.Reads as subtree-end-reads
 

@@ -3,7 +3,7 @@ use mathlib.Core.Path.{sym, _∙_}
 use native.Mathlib.Omega.{arith}
 use borrow.Author.Needs.{needs}
 use Rattle.row.specs.Tree.{treeOf}
-use Rattle.path.proofs.Follow.{inside-at}
+use Rattle.follow.proofs.Follow.{inside-at}
 use Rattle.rules.proofs.Fine.{fine-whole, fine-most}
 use Rattle.moves.specs.Path.{parentOf}
 use Rattle.moves.proofs.Due.{carried-out, no-parent}

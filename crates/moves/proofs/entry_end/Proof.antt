@@ -1,6 +1,6 @@
 -- `moves::entry_end` meets its contract: the end of the entry that is found, else its place.
 use borrow.Author.Needs.{needs}
-use Rattle.path.proofs.Follow.{inside-at}
+use Rattle.follow.proofs.Follow.{inside-at}
 use Rattle.moves.proofs.entry_end.Statement.{statement}
 use Rattle.moves.proofs.entry_end.Tie as tie
 

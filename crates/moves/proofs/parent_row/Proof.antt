@@ -2,8 +2,9 @@
 use mathlib.Core.Path.{sym, _∙_}
 use native.Mathlib.Omega.{arith}
 use borrow.Author.Needs.{needs}
-use Rattle.path.proofs.Follow.{inside-at}
-use Rattle.moves.proofs.Lookup.{fine-some, folder-found, file-found, none-found}
+use Rattle.follow.proofs.Follow.{inside-at}
+use Rattle.rules.proofs.Fine.{fine-some}
+use Rattle.moves.proofs.Lookup.{folder-found, file-found, none-found}
 use Rattle.moves.proofs.parent_row.Statement.{statement}
 use Rattle.moves.proofs.parent_row.Tie as tie
 

@@ -1,7 +1,8 @@
 -- `moves::words_at` meets its contract: the subtree at the row that the path leads to.
 use borrow.Author.Needs.{needs}
-use Rattle.path.proofs.Follow.{inside-at}
-use Rattle.moves.proofs.Lookup.{fine-some, words-part, words-none}
+use Rattle.follow.proofs.Follow.{inside-at}
+use Rattle.rules.proofs.Fine.{fine-some}
+use Rattle.moves.proofs.Lookup.{words-part, words-none}
 use Rattle.moves.proofs.words_at.Statement.{statement}
 use Rattle.moves.proofs.words_at.Tie as tie
 

@@ -1,8 +1,9 @@
 -- `reconcile::with_plan` meets its contract: the plan is long enough, the rooms are tried, and what is written is the outcome.
 use native.Mathlib.Omega.{arith}
 use borrow.Author.Needs.{needs}
+use Rattle.rules.proofs.Fine.{fine-some}
 use Rattle.reconcile.specs.Run.{lent}
-use Rattle.reconcile.proofs.Planned.{Sound, some-rows, three, settled-fits, items-most}
+use Rattle.reconcile.proofs.Planned.{Sound, three, settled-fits, items-most}
 use Rattle.reconcile.proofs.Steps.{Tried, spacious, entries, settles-accepted, settles-refused}
 use Rattle.reconcile.proofs.with_plan.Statement.{statement}
 use Rattle.reconcile.proofs.with_plan.Tie as tie
@@ -50,7 +51,7 @@ counts-of-requires c κs =
     let w = start q in
     let p = w .before .before .before .pre in
     let n = items-most _ _ _ (o-sound w) (l-sound w) (r-sound w) _ _ _ (q .settle .ensures) in
-    (three _ _ _ (p .0 .0) (p .0 .1) (p .0 .2), (some-rows _ (p .0 .1), (omega (arith, q .settle .kept .1 .1 .1 .0, p .1), omega arith)))
+    (three _ _ _ (p .0 .0) (p .0 .1) (p .0 .2), (fine-some _ (p .0 .1), (omega (arith, q .settle .kept .1 .1 .1 .0, p .1), omega arith)))
 
 write-results-requires : tie.Need-write-results-requires
 write-results-requires c κs =
@@ -58,7 +59,7 @@ write-results-requires c κs =
     let q = w .before .before .before .before .before .before in
     let p = w .before .before .before .before .before .before .before .before .before .before .before .before .before .before .before .before .pre in
     let n = items-most _ _ _ (tried w .o-sound) (tried w .l-sound) (tried w .r-sound) _ _ _ (q .settle .ensures) in
-    (three _ _ _ (p .0 .0) (p .0 .1) (p .0 .2), (some-rows _ (p .0 .1), (omega (arith, q .settle .kept .1 .1 .1 .0, p .1), spacious (tried w) _ (c .before .before .before .before .before .enum-told .given .1))))
+    (three _ _ _ (p .0 .0) (p .0 .1) (p .0 .2), (fine-some _ (p .0 .1), (omega (arith, q .settle .kept .1 .1 .1 .0, p .1), spacious (tried w) _ (c .before .before .before .before .before .enum-told .given .1))))
 
 counts-requires : tie.Need-counts-requires
 counts-requires c κs =

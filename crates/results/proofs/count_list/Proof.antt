@@ -7,7 +7,7 @@ use borrow.Author.Needs.{needs}
 use Rattle.results.specs.Decisions.{decisions, pieces}
 use Rattle.results.specs.Pieces.{pieceList}
 use Rattle.results.proofs.Rest.{Counting, count-start, count-next, count-end}
-use Rattle.results.proofs.Pieces.{line-small}
+use Rattle.results.proofs.Pieces.{line-most}
 use Rattle.results.proofs.count_list.Statement.{statement}
 use Rattle.results.proofs.count_list.Tie as tie
 
@@ -22,14 +22,14 @@ loop-holds c = count-start (omega arith) (zero-add _)
 
 add-sum : tie.Need-add-sum Inv-loop μ-loop
 add-sum c =
-    let b = line-small (c .before .decode .result) in
+    let b = line-most (c .before .decode .result) in
     let e : c .line-len .result ≤ 81920 = omega (arith, c .line-len .ensures) in
     search needs
 
 loop-again : tie.Need-loop-again Inv-loop μ-loop
 loop-again c =
     let l = c .before .before .before in
-    let b = line-small (c .before .decode .result) in
+    let b = line-most (c .before .decode .result) in
     let e = c .line-len .ensures in
     count-next (l .loop .inv) (search needs) (rw (c .before .decode .ensures) at e) (omega arith)
 

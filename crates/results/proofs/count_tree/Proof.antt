@@ -1,5 +1,5 @@
 -- `count_tree` counts a new tree's words.
-use mathlib.Core.Path.{sym, ap}
+use mathlib.Core.Path.{sym}
 use native.Mathlib.Omega.{arith}
 use lib.ListN.{length}
 use Prim.Native.Nat.{_-_, _≤_}

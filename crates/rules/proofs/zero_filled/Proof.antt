@@ -5,7 +5,8 @@ use lib.ListN.{length, drop, getD}
 use Prim.Native.Nat.{_-_, _≤_}
 use borrow.Author.Needs.{needs}
 use Rattle.tree.specs.Rules.{zeroFilled, bytes}
-use Rattle.rules.proofs.Words.{byte-is, zeros-next, filled-zero, filled-slash, filled-next, filled-end, length-bytes}
+use Rattle.tree.proofs.Rules.{length-bytes}
+use Rattle.rules.proofs.Words.{byte-is, zeros-next, filled-zero, filled-slash, filled-next, filled-end}
 use Rattle.rules.proofs.zero_filled.Statement.{statement}
 use Rattle.rules.proofs.zero_filled.Tie as tie
 

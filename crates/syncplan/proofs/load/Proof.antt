@@ -5,11 +5,9 @@ use borrow.Author.Needs.{needs}
 use Rattle.syncplan.proofs.load.Statement.{statement}
 use Rattle.syncplan.proofs.load.Tie as tie
 
--- src/main.rt:14:9
 returns : tie.Need-returns
 returns c = (omega arith, simp length-take (omega arith))
 
--- src/main.rt:19:9
 returns-2 : tie.Need-returns-2
 returns-2 c = (omega arith, simp length-take (omega arith))
 

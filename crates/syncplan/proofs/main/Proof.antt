@@ -5,7 +5,6 @@ use borrow.Author.Needs.{needs}
 use Rattle.syncplan.proofs.main.Statement.{statement}
 use Rattle.syncplan.proofs.main.Tie as tie
 
--- src/main.rt:42:34
 slice-aggregate-write-all : tie.Need-slice-aggregate-write-all
 slice-aggregate-write-all c =
     let n = c .before .before .print-plan .ensures .near in

@@ -5,7 +5,6 @@ use Prim.Native.Nat.{ℕ}
 use Rattle.syncplan.proofs.page.Statement.{statement}
 use Rattle.syncplan.proofs.page.Tie as tie
 
--- src/main.rt:26:1
 returns : tie.Need-returns
 returns c = sym (length-replicate {A = ℕ} 1048576 0)
 
