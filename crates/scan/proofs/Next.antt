@@ -1,7 +1,7 @@
 -- One turn of a loop over a text's lines, and over a line's words.
 use mathlib.Core.Path.{_≡_, refl, _∙_}
 use mathlib.Core.List.{List, [], _∷_}
-use mathlib.Core.Bool.{Bool, true, false, cond}
+use mathlib.Core.Bool.{Bool, true, false, cond, Bool·beq}
 use native.Mathlib.Omega.{arith}
 use native.Mathlib.Nat.{add-zero}
 use lib.Dec.{eqb}
@@ -13,7 +13,7 @@ use Rattle.listing.specs.Lines.{stepOf, isDone, lenIn, linesFrom}
 use Rattle.listing.specs.Words.{blank, span, wordsFrom}
 use Rattle.listing.specs.declared.Mode.{Mode}
 use Rattle.listing.specs.declared.Mode.the-variants.{Lead}
-use Rattle.scan.specs.Places.{skip, lineEnds}
+use Rattle.scan.specs.Places.{stretch, skip, lineEnds}
 
 -- the part from a to e is the first of all, and the rest come after it
 pub record Next {A : Type 0} (l : List ℕ) (a e : ℕ) (all : List A) (first : A) (rest : List A) : Type 0 where
@@ -78,21 +78,21 @@ words-skip (suc k) [] = refl
 words-skip (suc k) (b ∷ bs) = words-skip k bs
 
 words-lead : (l : List ℕ) → wordsFrom 0 l ≡ wordsFrom 0 (drop (skip l) l)
-unfolding wordsFrom skip
+unfolding wordsFrom stretch
 words-lead [] = refl
 words-lead (b ∷ bs) = go (blank b bs) refl (words-lead bs)
   where
     go : (t : Bool) → blank b bs ≡ t → wordsFrom 0 bs ≡ wordsFrom 0 (drop (skip bs) bs)
-        → wordsFrom 0 (b ∷ bs) ≡ wordsFrom 0 (drop (cond t (suc (skip bs)) 0) (b ∷ bs))
+        → wordsFrom 0 (b ∷ bs) ≡ wordsFrom 0 (drop (cond (Bool·beq t true) (suc (skip bs)) 0) (b ∷ bs))
     go true e h = rw e h
     go false e h = refl
 
 stopped : (l : List ℕ) → skip (drop (skip l) l) ≡ 0
-unfolding skip
+unfolding stretch
 stopped [] = refl
 stopped (b ∷ bs) = go (blank b bs) refl (stopped bs)
   where
-    go : (t : Bool) → blank b bs ≡ t → skip (drop (skip bs) bs) ≡ 0 → skip (drop (cond t (suc (skip bs)) 0) (b ∷ bs)) ≡ 0
+    go : (t : Bool) → blank b bs ≡ t → skip (drop (skip bs) bs) ≡ 0 → skip (drop (cond (Bool·beq t true) (suc (skip bs)) 0) (b ∷ bs)) ≡ 0
     go true e h = h
     go false e h = rw e
 
@@ -106,11 +106,11 @@ span-le (b ∷ bs) = go (blank b bs) (span-le bs)
     go false h = omega arith
 
 word-here : (l : List ℕ) → 0 < length l → skip l ≡ 0 → Next l 0 (span l) (wordsFrom 0 l) (take (span l) l) (wordsFrom 0 (drop (span l) l))
-unfolding wordsFrom span skip
+unfolding wordsFrom span stretch
 word-here [] h e = absurd (omega arith)
 word-here (b ∷ bs) h e = go (blank b bs) refl e
   where
-    go : (t : Bool) → blank b bs ≡ t → cond t (suc (skip bs)) 0 ≡ 0
+    go : (t : Bool) → blank b bs ≡ t → cond (Bool·beq t true) (suc (skip bs)) 0 ≡ 0
         → Next (b ∷ bs) 0 (span (b ∷ bs)) (wordsFrom 0 (b ∷ bs)) (take (span (b ∷ bs)) (b ∷ bs)) (wordsFrom 0 (drop (span (b ∷ bs)) (b ∷ bs)))
     go true g z = absurd (omega arith)
     go false g z = rw g (record { some = omega arith; fits = omega (arith, span-le bs); parted = rw (words-skip (span bs) bs) })

@@ -1,7 +1,7 @@
 -- What is counted in a text besides lines and words: the blanks before a word, and LFs.
 use mathlib.Core.Path.{_≡_}
 use mathlib.Core.List.{List, [], _∷_}
-use mathlib.Core.Bool.{Bool, true, false, cond}
+use mathlib.Core.Bool.{Bool, true, false, cond, Bool·beq}
 use lib.Dec.{eqb}
 use lib.ListN.{length}
 use Prim.Native.Nat.{ℕ, suc, _≤_}
@@ -9,10 +9,14 @@ use Rattle.listing.specs.Words.{blank}
 use Rattle.listing.specs.declared.Mode.{Mode}
 use Rattle.listing.specs.declared.Mode.the-variants.{Lead, LeadBack, Body, BodyBack, Comment, Done}
 
+-- how many bytes a text begins with that part words, or that do not
+unfoldable pub stretch : Bool → List ℕ → ℕ
+stretch blanks [] = 0
+stretch blanks (b ∷ bs) = cond (Bool·beq (blank b bs) blanks) (suc (stretch blanks bs)) 0
+
 -- the blanks before the first other byte
-unfoldable pub skip : List ℕ → ℕ
-skip [] = 0
-skip (b ∷ bs) = cond (blank b bs) (suc (skip bs)) 0
+abbrev pub skip : List ℕ → ℕ
+skip l = stretch true l
 
 -- the physical lines that end in a part
 unfoldable pub lineEnds : List ℕ → ℕ

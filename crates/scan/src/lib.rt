@@ -8,7 +8,7 @@ ghost use Rattle.listing.specs.Bytes.{classOf};
 ghost use Rattle.listing.specs.Lines.{lenIn};
 ghost use Rattle.listing.specs.Words.{blank, span, isRefused, isText};
 ghost use Rattle.listing.specs.declared.Mode.the-variants.{Lead, Body};
-ghost use Rattle.scan.specs.Places.{skip, isBody, lineEnds, Counted};
+ghost use Rattle.scan.specs.Places.{skip, stretch, isBody, lineEnds, Counted};
 
 // A word has begun, and no backslash stands right before.
 fn in_body(m: listing::Mode) -> bool
@@ -114,14 +114,14 @@ pub fn blank_at(line: &[u8], i: usize) -> bool
     }
 }
 
-// The first place from there on that is no blank.
-pub fn skip_blanks(line: &[u8], from: usize) -> usize
+// The end of the stretch of blanks, or of other bytes, that begins at from.
+fn stretch_end(line: &[u8], from: usize, blanks: bool) -> usize
     requires { ⌜ from ≤ length (now line) ⌝ }
-    ensures { λ r. ⌜ Counted (now (line .entry)) (from + skip (drop from (now (line .entry)))) r ⌝ }
+    ensures { λ r. ⌜ Counted (now (line .entry)) (from + stretch blanks (drop from (now (line .entry)))) r ⌝ }
 {
     let mut i = from;
     while i < line.len() {
-        if blank_at(line, i) {
+        if blank_at(line, i) == blanks {
             i += 1;
         } else {
             return i;
@@ -130,19 +130,20 @@ pub fn skip_blanks(line: &[u8], from: usize) -> usize
     i
 }
 
+// The first place from there on that is no blank.
+pub fn skip_blanks(line: &[u8], from: usize) -> usize
+    requires { ⌜ from ≤ length (now line) ⌝ }
+    ensures { λ r. ⌜ Counted (now (line .entry)) (from + skip (drop from (now (line .entry)))) r ⌝ }
+{
+    stretch_end(line, from, true)
+}
+
 // The end of the word that begins at from.
 pub fn word_end(line: &[u8], from: usize) -> usize
     requires { ⌜ from ≤ length (now line) ⌝ }
     ensures { λ r. ⌜ Counted (now (line .entry)) (from + span (drop from (now (line .entry)))) r ⌝ }
 {
-    let mut i = from;
-    while i < line.len() {
-        if blank_at(line, i) {
-            return i;
-        }
-        i += 1;
-    }
-    i
+    stretch_end(line, from, false)
 }
 
 // A byte of number 7.
