@@ -1,11 +1,11 @@
--- Tests on a byte that tell its class in part, for all 256 bytes by computing.
-use mathlib.Core.Path.{_≡_, refl, sym}
+-- Tests on a byte that tell its class in part, for every byte by computing.
+use mathlib.Core.Path.{_≡_, refl}
 use mathlib.Core.List.{List}
 use mathlib.Core.Bool.{Bool, true, false, cond, not}
 use native.Mathlib.Decide.{ℕ-discrete}
 use lib.Dec.{eqb, ltb}
 use Prim.Native.Nat.{ℕ, _<_}
-use borrow.Author.Tests.{lt-ltb, ne-eqb}
+use borrow.Author.Tests.{lt-ltb, ne-eqb, not-true}
 use Rattle.tree.proofs.Never.{never}
 use Rattle.listing.specs.Bytes.{classOf}
 use Rattle.listing.specs.Lines.{byEnd}
@@ -45,26 +45,16 @@ solid-all = refl
 pub above-blanks : (b : ℕ) (bs : List ℕ) → b < 256 → 32 < b → (b ≡ 92 → ⊥) → parts (classOf b) bs ≡ false
 above-blanks b bs s h n = solid-parts (classOf b) bs (rw (lt-ltb 32 b h, ne-eqb b 92 n) at (every-at 256 solidTest solid-all b s))
 
--- number 7 by comparisons
-abbrev pub outside : ℕ → Bool
-outside b = cond (ltb 126 b) true (cond (ltb 31 b) false (cond (eqb b 9) false (not (eqb b 10))))
+-- bytes from 32 to 126 are not of number 7
+abbrev textTest : ℕ → Bool
+textTest b = cond (ltb 31 b) (not (isRefused (classOf b))) true
 
-abbrev same : Bool → Bool → Bool
-same true b = b
-same false b = not b
-
-same-is : (a b : Bool) → same a b ≡ true → a ≡ b
-same-is true true e = refl
-same-is true false e = sym e
-same-is false true e = e
-same-is false false e = refl
-
-refused-all : every 256 (λ b. same (isRefused (classOf b)) (outside b)) ≡ true
+text-all : every 127 textTest ≡ true
 unfolding classOf
-refused-all = refl
+text-all = refl
 
-pub refused-is : (b : ℕ) → b < 256 → isRefused (classOf b) ≡ outside b
-refused-is b s = same-is (isRefused (classOf b)) (outside b) (every-at 256 (λ x. same (isRefused (classOf x)) (outside x)) refused-all b s)
+pub in-text : (b : ℕ) → 31 < b → b < 127 → isRefused (classOf b) ≡ false
+in-text b h s = not-true (isRefused (classOf b)) (rw (lt-ltb 31 b h) at (every-at 127 textTest text-all b s))
 
 -- a byte in a line in which a word has begun: LF, a backslash, any other
 abbrev other : Class → Bool

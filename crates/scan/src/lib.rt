@@ -146,20 +146,24 @@ pub fn word_end(line: &[u8], from: usize) -> usize
     stretch_end(line, from, false)
 }
 
-// A byte of number 7.
+// A byte of number 7; most are from 32 to 126 and are not.
 fn refused(b: u8) -> bool
     ensures { λ r. ⌜ r ≡ isRefused (classOf b) ⌝ }
 {
-    if 126 < b {
-        return true;
-    }
     if 31 < b {
-        return false;
+        if b < 127 {
+            return false;
+        }
     }
-    if b == 9 {
-        return false;
+    match listing::sort_byte(b) {
+        listing::Class::Refused => true,
+        listing::Class::Plain => false,
+        listing::Class::Escape => false,
+        listing::Class::Blank => false,
+        listing::Class::LineEnd => false,
+        listing::Class::Hash => false,
+        listing::Class::Mark => false,
     }
-    b != 10
 }
 
 // No byte of a line is due number 7.
