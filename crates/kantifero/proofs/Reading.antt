@@ -1,7 +1,7 @@
 -- The place of a text that is read: a line of at most 65,536 bytes, or the rows of a table.
 use mathlib.Core.Path.{_≡_, refl}
 use mathlib.Core.List.{List, [], _∷_}
-use mathlib.Core.Bool.{Bool, true, false, cond, _&&_}
+use mathlib.Core.Bool.{Bool, true, false, cond}
 use native.Mathlib.Omega.{arith}
 use lib.Dec.{eqb, leb}
 use lib.ListN.{length, take}
@@ -12,7 +12,7 @@ use Rattle.listing.specs.declared.Mode.the-variants.{Lead}
 use Rattle.listing.specs.Bytes.{classOf}
 use Rattle.listing.specs.Lines.{stepOf, lenIn, next, linesFrom, lines}
 use Rattle.listing.specs.Entries.{Said.none}
-use Rattle.listing.specs.Reading.{State, State.before, State.inside, State.closed, Step, Step.stops, Step.goes, Outcome, Outcome.refused, Outcome.accepted, answerOf, lineDoes, onStep, run, endsInLF, mostRows, reading}
+use Rattle.listing.specs.Reading.{State, State.before, State.inside, State.closed, Step, Step.stops, Step.goes, Outcome, Outcome.refused, Outcome.accepted, answerOf, lineDoes, onStep, run, endsInLF, hasForm, mostRows, reading}
 use Rattle.listing.proofs.Accepted.{accepted-fits}
 
 -- the line of a refusal
@@ -45,9 +45,9 @@ run-line most n zero (b ∷ bs) s =
 
 read-line : (t : List ℕ) (room : ℕ) → lineOf (reading t room) ≤ 65537
 unfolding reading lineOf
-read-line t room = go (leb (length t) 65536 && endsInLF t) refl
+read-line t room = go (hasForm t) refl
   where
-    go : (b : Bool) → (leb (length t) 65536 && endsInLF t) ≡ b → lineOf (cond b (run (mostRows room) (lines t) (before none)) (refused 6 0)) ≤ 65537
+    go : (b : Bool) → hasForm t ≡ b → lineOf (cond b (run (mostRows room) (lines t) (before none)) (refused 6 0)) ≤ 65537
     go true e = omega (arith, leb-true (length t) 65536 (and-true (leb (length t) 65536) (endsInLF t) e .0), run-line (mostRows room) 1 0 t (before none))
     go false e = omega arith
 

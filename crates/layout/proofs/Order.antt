@@ -129,7 +129,7 @@ swap-text a x y b room f N e =
     let swap = swap-lines most (pieces a) (pieces x) (pieces y) (pieces b) (N .tree) (N .path) (N .defaults) (N .open-there) (N .block-x) (N .block-y) (R .0)
     (rw (pieces-before most a x y b N) at (R .1)) in
     let goes-on : through most (pieces (a ++ (y ++ (x ++ b)))) (before none) ≡ goes (R .0) = rw (pieces-before most a y x b (turned N)) swap in
-    rw (ends-swapped most a x y b N, length-swapped most a x y b N, P .fair) (run-goes most (lines (a ++ (y ++ (x ++ b)))) (before none) (R .0) goes-on ∙ R .2)
+    rw (ends-swapped most a x y b N, length-swapped most a x y b N, P .form) (run-goes most (lines (a ++ (y ++ (x ++ b)))) (before none) (R .0) goes-on ∙ R .2)
 
 pub order-changes-nothing : OrderChangesNothing
 order-changes-nothing t u room f same e = e

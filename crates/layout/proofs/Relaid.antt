@@ -16,5 +16,5 @@ pub layout-changes-nothing : LayoutChangesNothing
 layout-changes-nothing t u room f as-is e = e
 layout-changes-nothing t u room f (respaced {u = v} fv same r) e =
     layout-changes-nothing v u room f r
-    (alike-accepted f (reading v room) (subst (λ (x : Outcome). Alike x (reading v room)) e (words-decide t v room (passed t room f e .fair) fv same)))
+    (alike-accepted f (reading v room) (subst (λ (x : Outcome). Alike x (reading v room)) e (words-decide t v room (passed t room f e .form) fv same)))
 layout-changes-nothing t u room f (reordered {u = v} o r) e = layout-changes-nothing v u room f r (order-changes-nothing t v room f o e)

@@ -7,9 +7,8 @@ use Rattle.tree.specs.Forest.{Forest}
 use Rattle.tree.proofs.Never.{never}
 use Rattle.listing.specs.Lines.{Line, lines}
 use Rattle.listing.specs.Entries.{Said.none}
-use Rattle.listing.specs.Reading.{State, State.before, Step, Step.stops, Step.goes, Outcome, Outcome.refused, Outcome.accepted, lineDoes, ended, onStep, run, mostRows, reading}
+use Rattle.listing.specs.Reading.{State, State.before, Step, Step.stops, Step.goes, Outcome, Outcome.refused, Outcome.accepted, lineDoes, ended, onStep, run, hasForm, mostRows, reading}
 use Rattle.layout.specs.Whole.{bytesOf}
-use Rattle.layout.specs.Said.{fair}
 use Rattle.layout.specs.Blocks.{andThen, through}
 
 -- what the last step says, a fault at line i
@@ -39,13 +38,13 @@ run-back most ls s f e = let r = run-verdict most ls s in go (through most (byte
 
 -- a text that is accepted is short enough, ends in LF, and its run accepts
 pub record Passed (t : List ℕ) (room : ℕ) (f : Forest) : Type 0 where
-  pub fair : fair t ≡ true
+  pub form : hasForm t ≡ true
   pub runs : run (mostRows room) (lines t) (before none) ≡ accepted f
 
 pub passed : (t : List ℕ) (room : ℕ) (f : Forest) → reading t room ≡ accepted f → Passed t room f
 unfolding reading
-passed t room f e = go (fair t) refl e
+passed t room f e = go (hasForm t) refl e
   where
-    go : (b : Bool) → fair t ≡ b → cond b (run (mostRows room) (lines t) (before none)) (refused 6 0) ≡ accepted f → Passed t room f
-    go true q h = record { fair = q; runs = h }
+    go : (b : Bool) → hasForm t ≡ b → cond b (run (mostRows room) (lines t) (before none)) (refused 6 0) ≡ accepted f → Passed t room f
+    go true q h = record { form = q; runs = h }
     go false q h = never (cc)

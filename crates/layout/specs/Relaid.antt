@@ -4,14 +4,14 @@ use mathlib.Core.List.{List}
 use mathlib.Core.Bool.{true}
 use Prim.Native.Nat.{ℕ}
 use Rattle.tree.specs.Forest.{Forest}
-use Rattle.listing.specs.Reading.{Outcome.accepted, mostRows, reading}
-use Rattle.layout.specs.Said.{said, fair}
+use Rattle.listing.specs.Reading.{Outcome.accepted, hasForm, mostRows, reading}
+use Rattle.layout.specs.Said.{said}
 use Rattle.layout.specs.Order.{Reordered}
 
 -- the same words otherwise laid out, or a folder's entries in another order, any number of times
 pub data Relaid (most : ℕ) : List ℕ → List ℕ → Type 0 where
   as-is : {t : List ℕ} → Relaid most t t
-  respaced : {t u v : List ℕ} → fair u ≡ true → said t ≡ said u → Relaid most u v → Relaid most t v
+  respaced : {t u v : List ℕ} → hasForm u ≡ true → said t ≡ said u → Relaid most u v → Relaid most t v
   reordered : {t u v : List ℕ} → Reordered most t u → Relaid most u v → Relaid most t v
 
 abbrev pub LayoutChangesNothing : Type 0

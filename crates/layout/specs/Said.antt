@@ -1,12 +1,10 @@
 -- What a text says: the words of its lines, comments and blank lines left out. Nothing else of it is read.
 use mathlib.Core.Path.{_≡_}
 use mathlib.Core.List.{List, [], _∷_}
-use mathlib.Core.Bool.{Bool, true, cond, _&&_}
-use lib.Dec.{leb}
-use lib.ListN.{length}
+use mathlib.Core.Bool.{true, cond}
 use Prim.Native.Nat.{ℕ}
 use Rattle.listing.specs.Words.{Words, words}
-use Rattle.listing.specs.Reading.{Outcome, Outcome.refused, Outcome.accepted, endsInLF, reading}
+use Rattle.listing.specs.Reading.{Outcome, Outcome.refused, Outcome.accepted, hasForm, reading}
 use Rattle.layout.specs.Whole.{pieces}
 use Rattle.layout.specs.Comments.{silent}
 
@@ -17,10 +15,6 @@ saidBy (l ∷ ls) = cond (silent (words l)) (saidBy ls) (words l ∷ saidBy ls)
 abbrev pub said : List ℕ → List Words
 said t = saidBy (pieces t)
 
--- neither too long nor without an LF at its end
-abbrev pub fair : List ℕ → Bool
-fair t = leb (length t) 65536 && endsInLF t
-
 -- the same tree, or the same number, at whatever line
 abbrev pub Alike : Outcome → Outcome → Type 0
 Alike (refused n i) (refused m j) = n ≡ m
@@ -30,4 +24,4 @@ Alike (accepted f) (accepted g) = f ≡ g
 
 -- spaces, tabs, joined lines, comments and blank lines say nothing
 abbrev pub WordsDecide : Type 0
-WordsDecide = (t u : List ℕ) (room : ℕ) → fair t ≡ true → fair u ≡ true → said t ≡ said u → Alike (reading t room) (reading u room)
+WordsDecide = (t u : List ℕ) (room : ℕ) → hasForm t ≡ true → hasForm u ≡ true → said t ≡ said u → Alike (reading t room) (reading u room)

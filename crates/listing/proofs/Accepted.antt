@@ -1,9 +1,9 @@
 -- What reading accepts fits: every line keeps what is known of the state.
-use mathlib.Core.Bool.{Bool, _&&_, cond, false, true}
+use mathlib.Core.Bool.{Bool, cond, false, true}
 use mathlib.Core.List.{List, [], _∷_}
 use mathlib.Core.Path.{_≡_, refl, subst}
-use lib.Dec.{eqb, leb}
-use lib.ListN.{getD, length}
+use lib.Dec.{eqb}
+use lib.ListN.{getD}
 use Prim.Native.Nat.{ℕ}
 use Rattle.tree.specs.Name.{Name}
 use Rattle.tree.specs.Forest.{Forest, TreePath}
@@ -15,7 +15,7 @@ use Rattle.listing.specs.Lines.{Line, lines}
 use Rattle.listing.specs.Words.{Words, isText, words}
 use Rattle.listing.specs.Names.{isName, nameOf}
 use Rattle.listing.specs.Entries.{Said.none, Entry, Entry.faulty, Entry.holds, Said, entryOf, typeIn}
-use Rattle.listing.specs.Reading.{Outcome, Outcome.accepted, Outcome.refused, State, State.before, State.closed, State.inside, Step, Step.goes, Step.stops, ended, endsInLF, entered, entryLine, inForce, lineDoes, mostRows, onStep, reading, run, wordsDo}
+use Rattle.listing.specs.Reading.{Outcome, Outcome.accepted, Outcome.refused, State, State.before, State.closed, State.inside, Step, Step.goes, Step.stops, ended, entered, entryLine, hasForm, inForce, lineDoes, mostRows, onStep, reading, run, wordsDo}
 use Rattle.listing.proofs.Ruled.{name-rule}
 use Rattle.listing.proofs.Entered.{good-placed, one-row}
 use Rattle.listing.proofs.Kept.{GoodEntry, entry-good, good-closing, good-cond, good-root, good-slash}
@@ -68,7 +68,7 @@ module _ (most : ℕ) where
 
 good-reading : (t : List ℕ) (room : ℕ) → GoodOutcome (mostRows room) (reading t room)
 unfolding reading
-good-reading t room = go (leb (length t) 65536 && endsInLF t) (good-run (mostRows room) (lines t) (before none) tt)
+good-reading t room = go (hasForm t) (good-run (mostRows room) (lines t) (before none) tt)
   where
     go : (b : Bool) → GoodOutcome (mostRows room) (run (mostRows room) (lines t) (before none))
         → GoodOutcome (mostRows room) (cond b (run (mostRows room) (lines t) (before none)) (refused 6 0))

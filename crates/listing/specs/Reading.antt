@@ -172,11 +172,14 @@ run most (l ∷ ls) s = onStep (lineDoes most (l .bytes) s) (l .number) (λ t. r
 abbrev pub endsInLF : List ℕ → Bool
 endsInLF t = eqb (getD t (length t - 1) 10) 10
 
+-- not too long, and LF at its end unless it is empty
+abbrev pub hasForm : List ℕ → Bool
+hasForm t = leb (length t) 65536 && endsInLF t
+
 -- whole rows of the room, at most 4,096
 abbrev pub mostRows : ℕ → ℕ
 mostRows room = min 4096 (room / 20)
 
 -- a text read into a table of that many words
 unfoldable pub reading : List ℕ → ℕ → Outcome
-reading t room =
-    cond (leb (length t) 65536 && endsInLF t) (run (mostRows room) (lines t) (before none)) (refused 6 0)
+reading t room = cond (hasForm t) (run (mostRows room) (lines t) (before none)) (refused 6 0)

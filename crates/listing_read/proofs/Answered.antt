@@ -9,9 +9,9 @@ use Rattle.rules.specs.declared.Answer.the-variants.{Accepted, Refused}
 use Rattle.rules.specs.Answer.{isAccepted}
 use Rattle.listing.specs.Lines.{lines}
 use Rattle.listing.specs.Entries.{Said.none}
-use Rattle.listing.specs.Reading.{Outcome, Outcome.refused, Outcome.accepted, State.before, mostRows, reading, run}
+use Rattle.listing.specs.Reading.{Outcome, Outcome.refused, Outcome.accepted, State.before, hasForm, mostRows, reading, run}
 use Rattle.reader.specs.State.{zeroed}
-use Rattle.listing_read.specs.Contract.{Answers, RanLines, ReadContract, hasForm, isTaken, tableAfter}
+use Rattle.listing_read.specs.Contract.{Answers, RanLines, ReadContract, isTaken, tableAfter}
 
 -- zeros, as many as there are words
 zeros-long : (w : List ℕ) (n : ℕ) → w ≡ zeroed n → length w ≡ n
@@ -29,7 +29,7 @@ refused-only room (accepted f) e = absurd (false≢true e)
 
 module _ (t b : List ℕ) where
   pub read-formless : (after : List ℕ) → hasForm t ≡ false → after ≡ zeroed (length b) → ReadContract t b (Refused 6 0 0) after
-  unfolding hasForm reading
+  unfolding reading
   read-formless after h e =
       read-by t b (refused 6 0) (Refused 6 0 0) after (rw h) (record { number-due = refl; side-due = refl; place-due = refl; accepted = refl }) refl e
 
@@ -39,7 +39,7 @@ module _ (t b : List ℕ) where
 
   module _ (form : hasForm t ≡ true) (room : ℕ) (same : room ≡ length b) (a : Answer) (after : List ℕ) (r : RanLines (ran room) room a after) where
     by-lines : reading t (length b) ≡ ran room
-    unfolding hasForm reading
+    unfolding reading
     by-lines = rw (form, same)
 
     pub read-accepted : (p : ℕ) → a ≡ Accepted p → ReadContract t b (Accepted p) after

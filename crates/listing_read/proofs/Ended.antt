@@ -13,18 +13,16 @@ use Rattle.row.specs.Buffer.{over}
 use Rattle.row.specs.Tree.{table}
 use Rattle.row.proofs.Tree.{length-table}
 use Rattle.rules.specs.declared.Answer.the-variants.{Accepted, Refused}
-use Rattle.listing.specs.Reading.{State, State.before, State.inside, State.closed, ended}
+use Rattle.listing.specs.Reading.{State, State.before, State.inside, State.closed, ended, hasForm}
 use Rattle.listing.specs.Accepted.{GoodState}
 use Rattle.reader.specs.declared.Reader.{Reader}
 use Rattle.reader.specs.State.{zeroed, Filled, Reads}
-use Rattle.listing_read.specs.Contract.{Answers, Ends, hasForm, isTaken, tableAfter}
+use Rattle.listing_read.specs.Contract.{Answers, Ends, isTaken, tableAfter}
 
 pub form-long : (t : List ℕ) → 65536 < length t → false ≡ hasForm t
-unfolding hasForm
 form-long t h = rw (lt-leb (length t) 65536 h)
 
 pub form-empty : (t : List ℕ) → length t ≡ 0 → true ≡ hasForm t
-unfolding hasForm
 form-empty [] h = refl
 form-empty (b ∷ bs) h = absurd (omega arith)
 
@@ -34,7 +32,6 @@ any-default (x ∷ l) zero d e h = refl
 any-default (x ∷ l) (suc i) d e h = any-default l i d e (omega arith)
 
 pub form-last : (t : List ℕ) → length t ≤ 65536 → (length t ≡ 0 → ⊥) → eqb (getD t (length t - 1) 0) 10 ≡ hasForm t
-unfolding hasForm
 form-last [] h n = absurd (n refl)
 form-last (b ∷ bs) h n = rw (le-leb (length (b ∷ bs)) 65536 h, any-default (b ∷ bs) (length (b ∷ bs) - 1) 0 10 (omega arith))
 

@@ -1,15 +1,14 @@
 -- What reading a listing promises: the answer, and what the lent table holds afterwards, whatever the text and the room.
 use mathlib.Core.Path.{_≡_}
 use mathlib.Core.List.{List}
-use mathlib.Core.Bool.{Bool, true, false, _&&_}
-use lib.Dec.{leb}
+use mathlib.Core.Bool.{Bool, true, false}
 use lib.ListN.{length}
 use Prim.Native.Nat.{ℕ}
 use Rattle.row.specs.Buffer.{over}
 use Rattle.row.specs.Tree.{table}
 use Rattle.rules.specs.declared.Answer.{Answer}
 use Rattle.rules.specs.Answer.{isAccepted, Says}
-use Rattle.listing.specs.Reading.{State, ended, Outcome, Outcome.refused, Outcome.accepted, answerOf, endsInLF, reading}
+use Rattle.listing.specs.Reading.{State, ended, Outcome, Outcome.refused, Outcome.accepted, answerOf, reading}
 use Rattle.reader.specs.declared.Reader.{Reader}
 use Rattle.reader.specs.State.{zeroed, Reads}
 
@@ -32,10 +31,6 @@ pub record ReadContract (t before : List ℕ) (answer : Answer) (after : List �
   pub says : Answers answer (reading t (length before))
   pub kind : isAccepted answer ≡ isTaken (reading t (length before))
   pub table : after ≡ tableAfter (reading t (length before)) (length before)
-
--- not too long, and LF at its end unless it is empty
-unfoldable pub hasForm : List ℕ → Bool
-hasForm t = leb (length t) 65536 && endsInLF t
 
 -- the lines of a text read into a table of zeros, which a refusal leaves as it comes
 pub record RanLines (o : Outcome) (room : ℕ) (answer : Answer) (after : List ℕ) : Type 0 where

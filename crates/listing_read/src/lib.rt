@@ -3,9 +3,9 @@ ghost use mathlib.Core.Path.{_≡_};
 ghost use lib.ListN.{length};
 ghost use Rattle.listing.specs.Lines.{lines};
 ghost use Rattle.listing.specs.Entries.{Said.none};
-ghost use Rattle.listing.specs.Reading.{State.before, mostRows, run};
+ghost use Rattle.listing.specs.Reading.{State.before, hasForm, mostRows, run};
 ghost use Rattle.reader.specs.State.{zeroed};
-ghost use Rattle.listing_read.specs.Contract.{ReadContract, RanLines, Ends, hasForm};
+ghost use Rattle.listing_read.specs.Contract.{ReadContract, RanLines, Ends};
 
 // Every word of a table zero.
 fn zero(t: &mut [u32])
