@@ -90,7 +90,7 @@ module _ (r : List ℕ) where
   span-solid (plain p s) z = rw p (ap suc (span-solid s z))
   span-solid (back {d = d} p s) z = rw (class-92, plain-ne d 10 p plain-10, p) (ap (λ (k : ℕ). suc (suc k)) (span-solid s z))
 
-words-skip : (k : ℕ) (l : List ℕ) → wordsFrom k l ≡ wordsFrom 0 (drop k l)
+pub words-skip : (k : ℕ) (l : List ℕ) → wordsFrom k l ≡ wordsFrom 0 (drop k l)
 unfolding wordsFrom
 words-skip zero l = refl
 words-skip (suc k) [] = refl

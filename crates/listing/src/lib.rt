@@ -1,6 +1,5 @@
 // A listing's bytes: what class each is of, where in a line it leaves the reader, and the values of digits.
 ghost use mathlib.Core.Path.{_≡_};
-ghost use Prim.Native.Nat.{_≤_};
 ghost use Rattle.listing.specs.Bytes.{classOf, Digit};
 ghost use Rattle.listing.specs.Lines.{byEnd, beginOf, stepOf, isDone};
 

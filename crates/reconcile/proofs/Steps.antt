@@ -17,8 +17,6 @@ use Rattle.rules.specs.declared.Checked.the-variants.{Fine}
 use Rattle.rules.specs.Refusal.{refusalOf}
 use Rattle.rules.specs.Rules.{checked}
 use Rattle.rules.specs.Faults.{firstRefusal, unless, roomRule}
-use Rattle.cursor.specs.declared.Decision.{Decision}
-use Rattle.cursor.specs.declared.Decision.the-variants.{Agreed, LeftGets, RightGets, Clash}
 use Rattle.plan.specs.Settle.{settled}
 use Rattle.plan.specs.Writes.{Fills}
 use Rattle.tally.specs.declared.Tally.{Tally}

@@ -13,6 +13,7 @@ use Rattle.listing.specs.Lines.{stepOf, isDone, lenIn, linesFrom}
 use Rattle.listing.specs.Words.{blank, span, wordsFrom}
 use Rattle.listing.specs.declared.Mode.{Mode}
 use Rattle.listing.specs.declared.Mode.the-variants.{Lead}
+use Rattle.listing.proofs.Solid.{words-skip}
 use Rattle.scan.specs.Places.{stretch, skip, lineEnds}
 
 -- the part from a to e is the first of all, and the rest come after it
@@ -71,12 +72,6 @@ module _ (n : ℕ) (l : List ℕ) (i : ℕ) where
       }
 
 -- blanks before a word are passed, and where they end a word begins
-words-skip : (k : ℕ) (l : List ℕ) → wordsFrom k l ≡ wordsFrom 0 (drop k l)
-unfolding wordsFrom
-words-skip zero l = refl
-words-skip (suc k) [] = refl
-words-skip (suc k) (b ∷ bs) = words-skip k bs
-
 words-lead : (l : List ℕ) → wordsFrom 0 l ≡ wordsFrom 0 (drop (skip l) l)
 unfolding wordsFrom stretch
 words-lead [] = refl
