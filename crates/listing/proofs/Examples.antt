@@ -1,5 +1,7 @@
--- The examples: every listing gives what its row says, by one computation, and the sample is written as shown.
+-- The examples: what listings give, by one computation, what is written, and the limits.
 use mathlib.Core.Path.{refl}
+use lib.ListN.{length}
+use borrow.Author.Tests.{lt-leb}
 use Rattle.tree.specs.Name.{cmp}
 use Rattle.tree.specs.Forest.{at, find, size}
 use Rattle.tree.specs.Put.{put, update}
@@ -13,8 +15,8 @@ use Rattle.listing.specs.Values.{decimalFrom, digits, hexBytes, isDigest
 use Rattle.listing.specs.Entries.{entryOf, typeIn}
 use Rattle.listing.specs.Reading.{closeLine, entryLine, placed, reading, rootLine, run, setLine, slashLine, unsetLine, wordsDo}
 use Rattle.listing.specs.Writing.{asItIs, decimal, dirLine, fileLine, hex, linesOf, spell, spellByte, textOf}
-use Rattle.listing.specs.Examples.{ExamplesHold, nest, nested}
+use Rattle.listing.specs.Examples.{ExamplesHold, asTheyAre, nest, nested, upFrom}
 
 pub examples-hold : ExamplesHold
-unfolding cmp at find put update bytes goodName zeroFilled zeros sameWords classOf digitValue lenIn linesFrom isText keyLen span values wordsFrom decodeFrom isName packed decimalFrom digits hexBytes isDigest isSize entryOf typeIn size closeLine entryLine placed reading rootLine run setLine slashLine unsetLine wordsDo asItIs decimal dirLine fileLine hex linesOf spell spellByte textOf nest nested
-examples-hold = (refl, refl)
+unfolding cmp at find put update bytes goodName zeroFilled zeros sameWords classOf digitValue lenIn linesFrom isText keyLen span values wordsFrom decodeFrom isName packed decimalFrom digits hexBytes isDigest isSize entryOf typeIn size closeLine entryLine placed reading rootLine run setLine slashLine unsetLine wordsDo asItIs decimal dirLine fileLine hex linesOf spell spellByte textOf nest nested upFrom asTheyAre
+examples-hold = record { given = refl; long = λ t room h. rw (lt-leb (length t) 65536 h); written = refl; plain = refl; rows = refl; refusal = refl; success = refl }
