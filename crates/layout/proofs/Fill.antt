@@ -12,7 +12,7 @@ use Rattle.tree.proofs.Forest.{Differ, sorted-at, sorted-find}
 use Rattle.tree.proofs.Put.{put-here, find-update-same, find-update-other, sorted-update, sorted-put, put-at}
 use Rattle.tree.proofs.Value.{find-ext}
 use Rattle.tree.proofs.Size.{size-put}
-use Rattle.listing.proofs.Grown.{parent-last}
+use Rattle.listing.proofs.Parent.{parent-last}
 
 by-name : {P : Type 0} (n k : Name) → (k ≡ n → P) → (Differ k n → P) → P
 by-name {P} n k same other = go (cmp k n) refl

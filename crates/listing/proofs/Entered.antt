@@ -17,7 +17,7 @@ use Rattle.tree.proofs.Rules.{under, under-length, within-put}
 use Rattle.listing.specs.Accepted.{Fit, GoodState, GoodStep, Inside, IsFolder}
 use Rattle.listing.specs.Entries.{Entry.holds, Said}
 use Rattle.listing.specs.Reading.{Step.goes, Step.stops, inForce, isAbsent, opened, placed}
-use Rattle.listing.proofs.Grown.{folder-above, parent-last}
+use Rattle.listing.proofs.Parent.{folder-above, parent-last}
 use Rattle.listing.proofs.Kept.{GoodEntry, all-last}
 
 -- what an entry holds is one row

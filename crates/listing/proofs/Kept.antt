@@ -20,7 +20,7 @@ use Rattle.listing.specs.Words.{Words, values}
 use Rattle.listing.specs.Values.{contentOf, digestOf, isDigest, isSize, sizeOf}
 use Rattle.listing.specs.Entries.{Entry, Entry.faulty, Entry.holds, Said, Said.isDir, Said.isFile, Said.isOther, Said.none, Said.twice, entryAs, oneEach, rootAs, typeIn}
 use Rattle.listing.specs.Reading.{State, State.before, State.closed, State.inside, Step, Step.goes, Step.stops, close, closeLine, front, isEmpty, rooted, rootLine, setLine, setTo, slashLine, unsetLine, withDefault}
-use Rattle.listing.proofs.Grown.{folder-above}
+use Rattle.listing.proofs.Parent.{folder-above}
 use Rattle.listing.proofs.Ruled.{content-rule}
 
 -- what an entry may hold

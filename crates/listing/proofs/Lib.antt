@@ -9,7 +9,7 @@ pub mod Spot
 pub mod Steps
 pub mod RoundTrip
 pub mod Ruled
-pub mod Grown
+pub mod Parent
 pub mod Kept
 pub mod Entered
 pub mod Accepted

@@ -8,7 +8,7 @@ use lib.ListN.{getD, length}
 use Prim.Native.Nat.{ℕ, suc, zero, _*_, _+_, _<_}
 use borrow.Author.Tests.{leb-true, ltb-true}
 use Rattle.tree.specs.Rules.{ContentRule, NameRule, Words32, goodName}
-use Rattle.tree.proofs.Same.{and-true}
+use Rattle.tree.proofs.Same.{and-true, both-true}
 use Rattle.listing.specs.Bytes.{among, classOf, digitValue, within}
 use Rattle.listing.specs.Names.{decode, decodeFrom, isName, nameOf, octal, packed, quad, speltAs}
 use Rattle.listing.specs.Values.{contentOf, digestOf, digits, hexBytes, isDigest, isSize, sizeOf}
@@ -83,17 +83,13 @@ unfolding isName packed
 name-rule w h =
     record { eight = refl; small = packed-small (decode w) (decode-small 0 w); good = and-true (not (among 0 (decode w)) && leb (length (decode w)) 32) (goodName (nameOf w)) h .1 }
 
-both : (t u : Bool) → cond t u false ≡ true → (t ≡ true) × (u ≡ true)
-both true u e = (refl, e)
-both false u e = absurd (false≢true e)
-
 hex-small : (v : List ℕ) → digits 16 v ≡ true → Small (hexBytes v)
 unfolding Small hexBytes digits
 hex-small [] h = tt
 hex-small (a ∷ []) h = tt
 hex-small (a ∷ b ∷ bs) h =
-    let p = both (ltb (digitValue a) 16) _ h in
-    let q = both (ltb (digitValue b) 16) _ (p .1) in
+    let p = both-true (ltb (digitValue a) 16) _ h in
+    let q = both-true (ltb (digitValue b) 16) _ (p .1) in
     (omega (arith, ltb-true (digitValue a) 16 (p .0), ltb-true (digitValue b) 16 (q .0)), hex-small bs (q .1))
 
 pub content-rule : (s d : List ℕ) → isSize s ≡ true → isDigest d ≡ true → ContentRule (contentOf (sizeOf s) (digestOf d))

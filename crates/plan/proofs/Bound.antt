@@ -14,6 +14,7 @@ use Rattle.settle.specs.Plan.{Plan, Plan.done, Plan.item, Plan.both, addItem, p
 use Rattle.settle.specs.Results.{Line.line, Lines, lineOf, list, new, outcome}
 use Rattle.tree.proofs.Never.{never}
 use Rattle.tree.proofs.Size.{size-add}
+use Rattle.tree.proofs.Same.{both-true}
 use Rattle.settle.proofs.Merge.{first, skip, sorted-skip, plan-step, plan-end}
 use Rattle.plan.specs.Items.{items, wordsOf, itemWords, planWords}
 use Rattle.plan.proofs.Least.{Key, Key.named, Key.last, key, LeastOf, leastKey, least-of, least-key}
@@ -37,10 +38,6 @@ folder-rows : (x : Node) → isFold x ≡ true → suc (size (kids x)) ≡ rowCo
 folder-rows absent h = never (cc)
 folder-rows (file c) h = never (cc)
 folder-rows (folder k) h = refl
-
-both-true : (a b : Bool) → cond a b false ≡ true → (a ≡ true) × (b ≡ true)
-both-true true b h = (refl, h)
-both-true false b h = (h, never (cc))
 
 -- what is counted of a plan: an item counts at most the rows of its three nodes, a folder on both sides one besides its entries
 pub record Counts (count : Plan → ℕ) : Type 0 where

@@ -21,7 +21,7 @@ use Rattle.listing.specs.Accepted.{Inside}
 use Rattle.tree.proofs.Forest.{sorted-at}
 use Rattle.tree.proofs.Put.{put-folder}
 use Rattle.tree.proofs.Size.{size-put}
-use Rattle.listing.proofs.Grown.{parent-last}
+use Rattle.listing.proofs.Parent.{parent-last}
 use Rattle.stands.proofs.Put.{at-entry, place-entry, row-entry}
 use Rattle.stands.proofs.Subtree.{holds-table}
 use Rattle.slot.proofs.Grown.{inserted-rest, length-inserted, last-put, put-row, spot-entry}

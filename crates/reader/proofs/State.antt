@@ -15,7 +15,7 @@ use Rattle.listing.specs.Entries.{Said, Said.none}
 use Rattle.listing.specs.Reading.{State, State.before, State.inside, State.closed, front, inForce, withDefault, close}
 use Rattle.listing.specs.Accepted.{GoodState, Inside, IsFolder}
 use Rattle.listing.proofs.Kept.{split-last, there-of}
-use Rattle.listing.proofs.Grown.{folder-above}
+use Rattle.listing.proofs.Parent.{folder-above}
 use Rattle.stands.proofs.Put.{row-entry, at-entry}
 use Rattle.reader.specs.declared.Reader.{Reader}
 use Rattle.reader.specs.State.{zeroed, said, Wide, Filled, Waits, Open, Reads}

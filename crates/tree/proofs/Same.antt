@@ -1,5 +1,5 @@
 -- The equality tests are equality.
-use mathlib.Core.Bool.{Bool, _&&_, false, true}
+use mathlib.Core.Bool.{Bool, _&&_, cond, false, true}
 use mathlib.Core.List.{List}
 use mathlib.Core.Path.{_≡_, ap, refl, sym}
 use lib.Dec.{isEq}
@@ -9,6 +9,10 @@ use Rattle.tree.specs.Name.{cmp}
 use Rattle.tree.specs.Same.{sameForest, sameNode, sameWords}
 use Rattle.tree.proofs.Order.{cmp-eq, cmp-refl}
 use Rattle.tree.proofs.Never.{never}
+
+pub both-true : (a b : Bool) → cond a b false ≡ true → (a ≡ true) × (b ≡ true)
+both-true true b e = (refl, e)
+both-true false b e = never (cc)
 
 pub and-true : (a b : Bool) → (a && b) ≡ true → (a ≡ true) × (b ≡ true)
 and-true true b e = (refl, e)

@@ -1,4 +1,4 @@
--- A move: the subtree at a path becomes another, absence included.
+-- A move: the subtree at a path becomes another, absence included; where a path reaches, and where two paths part.
 use mathlib.Core.List.{[], _∷_}
 use Rattle.tree.specs.Name.{Name, cmp, byOrder, ifSame}
 use Rattle.tree.specs.Forest.{TreePath, Forest, Forest.end, Forest.leaf, Forest.dir, Node, Node.absent, Node.file, Node.folder, find, add}

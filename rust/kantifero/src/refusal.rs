@@ -1,3 +1,5 @@
+//! Why a call was refused: the number, and a sentence for each.
+
 use std::fmt;
 
 /// Why a call refused what it was given. Nothing that was lent to the call has changed, but that [`read`](crate::read)
