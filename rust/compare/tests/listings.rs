@@ -148,6 +148,30 @@ fn limits_of_a_text() {
     tried.end(&[("read 0", 100), ("read 3", 8), ("read 6", 60)]);
 }
 
+/// Tables whose texts have 65,535 to 65,537 bytes: a lone root takes 21, and a folder beside it 13 and its name.
+#[test]
+fn limits_of_a_written_text() {
+    let mut tried = Tried::new("limits of a written text");
+    tried.cases(4_650_000, 3, |case| {
+        for last in 30..=32 {
+            let mut tree = Node::default();
+            for (number, length) in [vec![32; 1454], vec![28, last]]
+                .concat()
+                .into_iter()
+                .enumerate()
+            {
+                let name = format!("{number:0length$}").into_bytes();
+                tree.put(&[name], Some(Node::default()));
+            }
+            let table = reference::table(&tree);
+            for room in [MOST_BYTES - 1, MOST_BYTES, MOST_BYTES + 1, 2 * MOST_BYTES] {
+                both::write(case, &table, room);
+            }
+        }
+    });
+    tried.end(&[("write 0", 21), ("write 3 side 1", 15)]);
+}
+
 /// Large trees in order, in reverse and in any order.
 #[test]
 fn large_texts() {

@@ -1,7 +1,7 @@
 //! The other calls through the wrapper: moves, rows to carry, listings, refusals, and that nothing else is touched.
 mod common;
 
-use common::{file, row, tree, CANARY};
+use common::{cases, file, row, tree, CANARY};
 use kantifero::{Refusal, Tally, NO_ROW, ROW};
 
 #[test]

@@ -1,51 +1,8 @@
 //! Reconciling through the wrapper: document cases, refusals, and that nothing else is touched.
 mod common;
 
-use common::{file, row, tree, CANARY};
-use kantifero::{Buffers, Counts, Refusal, Tally, NO_ROW};
-
-/// Archive, left, right, the list and the new archive of a case.
-type Case = (Vec<u32>, Vec<u32>, Vec<u32>, Vec<[u32; 3]>, Vec<u32>);
-
-fn cases() -> Vec<Case> {
-    let none = || tree(&[]);
-    let f = || tree(&[file(b"p", 1)]);
-    let g = || tree(&[file(b"p", 2)]);
-    let empty = || tree(&[row(1, 0, b"p", 0)]);
-    let inside = |name: &[u8], digest| tree(&[row(1, 0, b"p", 0), row(2, 1, name, digest)]);
-    let both = tree(&[row(1, 0, b"p", 0), row(2, 1, b"x", 1), row(2, 1, b"y", 2)]);
-    vec![
-        (none(), none(), none(), vec![], none()),
-        (none(), f(), none(), vec![[2, 1, NO_ROW]], f()),
-        (none(), f(), f(), vec![], f()),
-        (none(), f(), g(), vec![[3, 1, 1]], none()),
-        (f(), none(), f(), vec![[2, NO_ROW, 1]], none()),
-        (f(), none(), g(), vec![[3, NO_ROW, 1]], f()),
-        (f(), none(), none(), vec![], none()),
-        (
-            inside(b"x", 1),
-            none(),
-            inside(b"x", 2),
-            vec![[3, NO_ROW, 1]],
-            inside(b"x", 1),
-        ),
-        (
-            inside(b"x", 1),
-            empty(),
-            g(),
-            vec![[3, 1, 1]],
-            inside(b"x", 1),
-        ),
-        (f(), empty(), f(), vec![[2, 1, 1]], empty()),
-        (
-            f(),
-            inside(b"x", 1),
-            inside(b"y", 2),
-            vec![[2, 2, NO_ROW], [1, NO_ROW, 2]],
-            both,
-        ),
-    ]
-}
+use common::{cases, file, tree, CANARY};
+use kantifero::{Buffers, Counts, Refusal, Tally};
 
 #[test]
 fn cases_1_to_11() {

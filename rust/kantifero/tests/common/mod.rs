@@ -1,5 +1,5 @@
-//! Tables from rows.
-use kantifero::ROW;
+//! Tables from rows, and the cases by name.
+use kantifero::{NO_ROW, ROW};
 
 /// What no call writes.
 pub const CANARY: u32 = 0xC0FF_EE11;
@@ -24,4 +24,48 @@ pub fn tree(rows: &[Vec<u32>]) -> Vec<u32> {
 /// A file in the root.
 pub fn file(name: &[u8], digest: u32) -> Vec<u32> {
     row(1, 1, name, digest)
+}
+
+/// Archive, left, right, the list and the new archive of a case.
+pub type Case = (Vec<u32>, Vec<u32>, Vec<u32>, Vec<[u32; 3]>, Vec<u32>);
+
+/// C1 to C11.
+pub fn cases() -> Vec<Case> {
+    let none = || tree(&[]);
+    let f = || tree(&[file(b"p", 1)]);
+    let g = || tree(&[file(b"p", 2)]);
+    let empty = || tree(&[row(1, 0, b"p", 0)]);
+    let inside = |name: &[u8], digest| tree(&[row(1, 0, b"p", 0), row(2, 1, name, digest)]);
+    let both = tree(&[row(1, 0, b"p", 0), row(2, 1, b"x", 1), row(2, 1, b"y", 2)]);
+    vec![
+        (none(), none(), none(), vec![], none()),
+        (none(), f(), none(), vec![[2, 1, NO_ROW]], f()),
+        (none(), f(), f(), vec![], f()),
+        (none(), f(), g(), vec![[3, 1, 1]], none()),
+        (f(), none(), f(), vec![[2, NO_ROW, 1]], none()),
+        (f(), none(), g(), vec![[3, NO_ROW, 1]], f()),
+        (f(), none(), none(), vec![], none()),
+        (
+            inside(b"x", 1),
+            none(),
+            inside(b"x", 2),
+            vec![[3, NO_ROW, 1]],
+            inside(b"x", 1),
+        ),
+        (
+            inside(b"x", 1),
+            empty(),
+            g(),
+            vec![[3, 1, 1]],
+            inside(b"x", 1),
+        ),
+        (f(), empty(), f(), vec![[2, 1, 1]], empty()),
+        (
+            f(),
+            inside(b"x", 1),
+            inside(b"y", 2),
+            vec![[2, 2, NO_ROW], [1, NO_ROW, 2]],
+            both,
+        ),
+    ]
 }
