@@ -6,10 +6,11 @@ use lib.ListN.{length, set, length-set}
 use lib.Seq.{set-getD, set-set}
 use Prim.Native.Nat.{ℕ, suc, _-_, _<_, _≤_}
 use Rattle.tree.specs.Name.{Name}
-use Rattle.tree.specs.Forest.{Content, Forest, Forest.end, Node, Node.absent, Node.file, Node.folder, TreePath, Sorted, SortedNode, at, find, size, rowCount}
+use Rattle.tree.specs.Forest.{Content, Forest, Forest.end, Node, Node.absent, Node.file, Node.folder, TreePath, Sorted, SortedNode, at, find, size}
 use Rattle.tree.specs.Put.{update}
 use Rattle.tree.proofs.Never.{never}
 use Rattle.tree.proofs.Put.{sorted-update}
+use Rattle.tree.proofs.Size.{rowCount}
 use Rattle.listing.specs.Entries.{Said, Said.none}
 use Rattle.listing.specs.Reading.{State, State.inside, Step, Step.stops, Step.goes, inForce, lineDoes}
 use Rattle.layout.specs.Blocks.{andThen, through, Sets, Enters, Closes, Block, Block.a-file, Block.a-folder, Contents.none, Contents.sets, Contents.block}

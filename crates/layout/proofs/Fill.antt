@@ -4,14 +4,14 @@ use mathlib.Core.List.{[], _∷_, _++_}
 use native.Mathlib.Omega.{arith}
 use Prim.Native.Nat.{_+_, Ordering, Ordering·lt, Ordering·eq, Ordering·gt}
 use Rattle.tree.specs.Name.{Name, cmp}
-use Rattle.tree.specs.Forest.{Forest, Node, Node.absent, Node.file, Node.folder, TreePath, Sorted, SortedNode, at, find, kids, size, rowCount}
+use Rattle.tree.specs.Forest.{Forest, Node, Node.absent, Node.file, Node.folder, TreePath, Sorted, SortedNode, at, find, kids, size}
 use Rattle.tree.specs.Put.{put, update, Reaches}
 use Rattle.tree.proofs.Never.{never}
 use Rattle.tree.proofs.Order.{cmp-eq}
 use Rattle.tree.proofs.Forest.{Differ, sorted-at, sorted-find}
 use Rattle.tree.proofs.Put.{put-here, find-update-same, find-update-other, sorted-update, sorted-put, put-at}
 use Rattle.tree.proofs.Value.{find-ext}
-use Rattle.tree.proofs.Size.{size-put}
+use Rattle.tree.proofs.Size.{size-put, rowCount}
 use Rattle.listing.proofs.Parent.{parent-last}
 
 by-name : {P : Type 0} (n k : Name) → (k ≡ n → P) → (Differ k n → P) → P

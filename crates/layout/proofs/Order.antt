@@ -5,11 +5,12 @@ use native.Mathlib.Omega.{arith}
 use lib.ListN.{length, length-append}
 use Prim.Native.Nat.{ℕ, suc, _≤_}
 use Rattle.tree.specs.Name.{Name}
-use Rattle.tree.specs.Forest.{Forest, Node, Node.absent, Node.file, Node.folder, TreePath, Sorted, at, find, kids, size, rowCount}
+use Rattle.tree.specs.Forest.{Forest, Node, Node.absent, Node.file, Node.folder, TreePath, Sorted, at, find, kids, size}
 use Rattle.tree.specs.Put.{update}
 use Rattle.tree.proofs.Order.{flip, cmp-eq, cmp-flip}
 use Rattle.tree.proofs.Forest.{Differ}
 use Rattle.tree.proofs.Put.{find-update-same, find-update-other, sorted-update}
+use Rattle.tree.proofs.Size.{rowCount}
 use Rattle.listing.specs.Accepted.{Inside, IsFolder}
 use Rattle.listing.specs.Lines.{lines}
 use Rattle.listing.specs.Entries.{Said, Said.none}

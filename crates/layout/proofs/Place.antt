@@ -9,11 +9,11 @@ use lib.Seq.{getD-at, getD-set-same, set-at}
 use Prim.Native.Nat.{ℕ, suc, _+_, _-_, _<_}
 use borrow.Author.Tests.{lt-leb, lt-ltb, leb-false, ltb-true}
 use Rattle.tree.specs.Name.{Name}
-use Rattle.tree.specs.Forest.{Forest, Forest.end, Node, Node.absent, Node.folder, TreePath, Sorted, at, find, kids, size, rowCount}
+use Rattle.tree.specs.Forest.{Forest, Forest.end, Node, Node.absent, Node.folder, TreePath, Sorted, at, find, kids, size}
 use Rattle.tree.specs.Put.{put, update, Reaches}
 use Rattle.tree.proofs.Never.{never}
 use Rattle.tree.proofs.Put.{find-update-same, sorted-update}
-use Rattle.tree.proofs.Size.{size-put}
+use Rattle.tree.proofs.Size.{size-put, rowCount}
 use Rattle.listing.specs.Accepted.{GoodStep, Inside}
 use Rattle.listing.specs.Entries.{Said, Said.none}
 use Rattle.listing.specs.Reading.{State, State.inside, Step.stops, Step.goes, inForce, close, isAbsent, opened, placed}

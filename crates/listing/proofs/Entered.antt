@@ -8,12 +8,12 @@ use lib.ListN.{length, length-append}
 use Prim.Native.Nat.{ℕ, suc, _+_, _-_, _<_, _≤_}
 use borrow.Author.Tests.{leb-false, ltb-true}
 use Rattle.tree.specs.Name.{Name}
-use Rattle.tree.specs.Forest.{Present, Forest, Node, Node.absent, Node.file, Node.folder, Sorted, SortedNode, TreePath, at, kids, size, rowCount}
+use Rattle.tree.specs.Forest.{Present, Forest, Node, Node.absent, Node.file, Node.folder, Sorted, SortedNode, TreePath, at, kids, size}
 use Rattle.tree.specs.Put.{put, Reaches}
-use Rattle.tree.specs.Rules.{ContentRule, NameRule, Within, WithinNode, AllNames}
+use Rattle.tree.specs.Rules.{ContentRule, NameRule, Within, AllNames}
 use Rattle.tree.proofs.Put.{put-here, sorted-put, put-folder}
-use Rattle.tree.proofs.Size.{size-put}
-use Rattle.tree.proofs.Rules.{under, under-length, within-put}
+use Rattle.tree.proofs.Size.{size-put, rowCount}
+use Rattle.tree.proofs.Rules.{under, under-length, within-put, WithinNode}
 use Rattle.listing.specs.Accepted.{Fit, GoodState, GoodStep, Inside, IsFolder}
 use Rattle.listing.specs.Entries.{Entry.holds, Said}
 use Rattle.listing.specs.Reading.{Step.goes, Step.stops, inForce, isAbsent, opened, placed}

@@ -8,12 +8,12 @@ use native.Mathlib.Omega.{arith}
 use lib.ListN.{length, length-append, length-map}
 use Prim.Native.Nat.{ℕ, zero, suc, _+_, _*_, _≤_, _<_}
 use Rattle.tree.specs.Name.{Name}
-use Rattle.tree.specs.Forest.{TreePath, Forest, Node, Node.absent, Node.file, Node.folder, kids, size, Sorted, rowCount}
+use Rattle.tree.specs.Forest.{TreePath, Forest, Node, Node.absent, Node.file, Node.folder, kids, size, Sorted}
 use Rattle.settle.specs.Decision.{Decision, Decision.agreed, Decision.leftGets, Decision.rightGets, Decision.clash, decide}
 use Rattle.settle.specs.Plan.{Plan, Plan.done, Plan.item, Plan.both, addItem, plan, settle}
 use Rattle.settle.specs.Results.{Line.line, Lines, lineOf, list, new, outcome}
 use Rattle.tree.proofs.Never.{never}
-use Rattle.tree.proofs.Size.{size-add}
+use Rattle.tree.proofs.Size.{size-add, rowCount}
 use Rattle.tree.proofs.Same.{both-true}
 use Rattle.settle.proofs.Merge.{first, skip, sorted-skip, plan-step, plan-end}
 use Rattle.plan.specs.Items.{items, wordsOf, itemWords, planWords}

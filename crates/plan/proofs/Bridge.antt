@@ -8,7 +8,7 @@ use native.Mathlib.Numerals.{add-one}
 use lib.ListN.{length}
 use Prim.Native.Nat.{ℕ, zero, suc, _+_, _≤_, _<_}
 use Rattle.tree.specs.Name.{Name}
-use Rattle.tree.specs.Forest.{Forest, Forest.end, kids, size, Sorted, rowCount}
+use Rattle.tree.specs.Forest.{Forest, Forest.end, kids, size, Sorted}
 use Rattle.tree.specs.Same.{sameNode}
 use Rattle.settle.specs.Decision.{rule, decide}
 use Rattle.settle.specs.Plan.{settle}
@@ -17,6 +17,7 @@ use Rattle.cursor.specs.Cursor.{none, orderAt, turned, least, decision}
 use Rattle.cursor.specs.declared.Rows.{Rows}
 use Rattle.cursor.specs.declared.Decision.the-variants.{Agreed, LeftGets, RightGets, Clash}
 use Rattle.tree.proofs.Never.{never}
+use Rattle.tree.proofs.Size.{rowCount}
 use Rattle.settle.proofs.Names.{present}
 use Rattle.settle.proofs.Merge.{first, skip, sorted-skip, plan-end}
 use Rattle.stands.proofs.Same.{same-subtrees}

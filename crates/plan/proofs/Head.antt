@@ -7,7 +7,8 @@ use lib.Seq.{drop-drop, drop-at}
 use Prim.Native.Nat.{ℕ, suc, _+_, _<_}
 use borrow.Author.Tests.{lt-ltb, le-ltb, eq-eqb, ne-eqb}
 use Rattle.tree.specs.Name.{Name}
-use Rattle.tree.specs.Forest.{Forest, Forest.end, Forest.leaf, Forest.dir, Node, Node.absent, Node.file, Node.folder, add, size, Present, rowCount}
+use Rattle.tree.specs.Forest.{Forest, Forest.end, Forest.leaf, Forest.dir, Node, Node.absent, Node.file, Node.folder, add, size, Present}
+use Rattle.tree.proofs.Size.{rowCount}
 use Rattle.row.specs.Table.{Row, rows, depth}
 use Rattle.row.specs.Tree.{fileRow, folderRow, rowsOf, nodeRows}
 use Rattle.row.proofs.Tree.{rows-add}

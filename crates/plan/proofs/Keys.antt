@@ -8,7 +8,7 @@ use lib.ListN.{length, length-append}
 use Prim.Native.Nat.{ℕ, zero, suc, _+_, _/_, _≤_, _<_, Ordering, Ordering·lt, Ordering·eq, Ordering·gt}
 use borrow.Author.Tests.{lt-ltb, le-ltb}
 use Rattle.tree.specs.Name.{Name, cmp, ifSame}
-use Rattle.tree.specs.Forest.{Forest, Forest.end, Forest.leaf, Forest.dir, Node, Node.absent, Node.file, Node.folder, kids, add, size, Sorted, Present, rowCount}
+use Rattle.tree.specs.Forest.{Forest, Forest.end, Forest.leaf, Forest.dir, Node, Node.absent, Node.file, Node.folder, kids, add, size, Sorted, Present}
 use Rattle.tree.specs.Rules.{NameRule, ContentRule, Within}
 use Rattle.settle.specs.Names.{names}
 use Rattle.settle.specs.Plan.{Entry.single, Entry.pair, plan, settle}
@@ -20,7 +20,7 @@ use Rattle.tree.proofs.Never.{never}
 use Rattle.tree.proofs.Order.{cmp-refl}
 use Rattle.tree.proofs.Forest.{siblings-ind, sorted-kids, sorted-parts}
 use Rattle.tree.proofs.Rules.{within-parts, within-kids}
-use Rattle.tree.proofs.Size.{size-add}
+use Rattle.tree.proofs.Size.{size-add, rowCount}
 use Rattle.settle.proofs.Names.{has, has-names, present}
 use Rattle.settle.proofs.Merge.{first, skip, first-add, skip-add, find-first}
 use Rattle.stands.proofs.Rows.{head, length-rows-from}

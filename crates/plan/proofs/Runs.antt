@@ -5,7 +5,7 @@ use mathlib.Core.Bool.{true}
 use native.Mathlib.Omega.{arith}
 use Prim.Native.Nat.{ℕ, suc, _+_, Ordering, Ordering·lt, Ordering·eq, Ordering·gt}
 use Rattle.tree.specs.Name.{Name, cmp, ifSame, byOrder}
-use Rattle.tree.specs.Forest.{TreePath, Forest, Forest.end, Forest.leaf, Forest.dir, Node, Node.absent, find, kids, at, add, size, Sorted, Present, rowCount}
+use Rattle.tree.specs.Forest.{TreePath, Forest, Forest.end, Forest.leaf, Forest.dir, Node, Node.absent, find, kids, at, add, size, Sorted, Present}
 use Rattle.settle.specs.Decision.{Decision.agreed, decide}
 use Rattle.settle.specs.Names.{Names, names}
 use Rattle.settle.specs.Plan.{Plan, Entry, Entry.single, Entry.pair, addItem, planOver, settleIn, plan, settle}
@@ -15,7 +15,7 @@ use Rattle.stands.proofs.Around.{before-add}
 use Rattle.tree.proofs.Never.{never}
 use Rattle.tree.proofs.Order.{flip, cmp-eq, cmp-flip}
 use Rattle.tree.proofs.Forest.{siblings-ind}
-use Rattle.tree.proofs.Size.{size-add}
+use Rattle.tree.proofs.Size.{size-add, rowCount}
 use Rattle.settle.proofs.Names.{has, Over}
 use Rattle.settle.proofs.Merge.{first, skip, Least, first-add, skip-add, find-first, find-skip, over-rest, plan-step}
 use Rattle.plan.specs.Items.{kind, items, orNone, wordsOf}

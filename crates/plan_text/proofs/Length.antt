@@ -9,8 +9,8 @@ use lib.ListN.{length, length-append}
 use Prim.Native.Nat.{ℕ, zero, suc, _+_, _*_, _/_, _%_, _≤_}
 use Rattle.tree.specs.Name.{Name}
 use Rattle.tree.specs.Forest.{TreePath, Forest, Forest.end, Forest.leaf, Forest.dir, Node, Node.absent, Node.file, Node.folder, Present, at, find, size}
-use Rattle.tree.specs.Rules.{NameRule, ContentRule, Within, WithinNode, WellFormed, bytes}
-use Rattle.tree.proofs.Rules.{within-find, length-bytes}
+use Rattle.tree.specs.Rules.{NameRule, ContentRule, Within, WellFormed, bytes}
+use Rattle.tree.proofs.Rules.{within-find, length-bytes, WithinNode}
 use Rattle.tree.proofs.Forest.{at-absent}
 use Rattle.settle.specs.Decision.{Decision.clash}
 use Rattle.settle.specs.Results.{Line.line, Lines, outcome}

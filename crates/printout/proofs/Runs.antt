@@ -4,8 +4,9 @@ use mathlib.Core.List.{List}
 use native.Mathlib.Omega.{arith}
 use lib.ListN.{length, take}
 use Prim.Native.Nat.{ℕ, _+_, _*_, _≤_}
-use Rattle.tree.specs.Forest.{Node, size, rowCount}
+use Rattle.tree.specs.Forest.{Node, size}
 use Rattle.tree.specs.Rules.{WellFormed, Words32}
+use Rattle.tree.proofs.Size.{rowCount}
 use Rattle.settle.specs.Decision.{Decision, Decision.agreed, Decision.leftGets, Decision.rightGets, Decision.clash}
 use Rattle.settle.specs.Results.{forArchive, forLeft, forRight, newArchive, newLeft, newRight}
 use Rattle.row.specs.Buffer.{over}

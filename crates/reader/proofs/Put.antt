@@ -8,7 +8,7 @@ use lib.ListN.{length, take, drop, getD, set, length-set, length-append}
 use lib.Seq.{take-length, take-append-le, drop-drop, getD-set-same, getD-set-other, take-suc-set}
 use Prim.Native.Nat.{ℕ, suc, _+_, _*_, _-_, _≤_, _<_}
 use Rattle.tree.specs.Name.{Name}
-use Rattle.tree.specs.Forest.{TreePath, Forest, Forest.end, Node, Node.absent, Node.folder, Present, at, kids, size, rowCount}
+use Rattle.tree.specs.Forest.{TreePath, Forest, Forest.end, Node, Node.absent, Node.folder, Present, at, kids, size}
 use Rattle.tree.specs.Put.{put}
 use Rattle.row.specs.Table.{Row, flat}
 use Rattle.row.specs.Tree.{nodeRows, rootName, table}
@@ -20,7 +20,7 @@ use Rattle.listing.specs.Reading.{inForce}
 use Rattle.listing.specs.Accepted.{Inside}
 use Rattle.tree.proofs.Forest.{sorted-at}
 use Rattle.tree.proofs.Put.{put-folder}
-use Rattle.tree.proofs.Size.{size-put}
+use Rattle.tree.proofs.Size.{size-put, rowCount}
 use Rattle.listing.proofs.Parent.{parent-last}
 use Rattle.stands.proofs.Put.{at-entry, place-entry, row-entry}
 use Rattle.stands.proofs.Subtree.{holds-table}

@@ -5,14 +5,14 @@ use native.Mathlib.Omega.{arith}
 use lib.ListN.{take}
 use Prim.Native.Nat.{ℕ, zero, suc, _+_, _≤_, _<_, Ordering, Ordering·lt, Ordering·eq, Ordering·gt}
 use Rattle.tree.specs.Name.{Name, cmp, byOrder, ifSame}
-use Rattle.tree.specs.Forest.{TreePath, Forest, Forest.end, Forest.leaf, Forest.dir, Node, Node.absent, Node.file, Node.folder, Present, SortedNode, at, find, size, rowCount}
+use Rattle.tree.specs.Forest.{TreePath, Forest, Forest.end, Forest.leaf, Forest.dir, Node, Node.absent, Node.file, Node.folder, Present, SortedNode, at, find, size}
 use Rattle.tree.specs.Put.{put, update, Reaches}
 use Rattle.stands.specs.Around.{before, rowIn}
 use Rattle.slot.specs.Insert.{Last, Last.none, Last.entry}
 use Rattle.tree.proofs.Forest.{sorted-find, at-absent}
 use Rattle.tree.proofs.Put.{find-update-same}
 use Rattle.tree.proofs.Never.{never}
-use Rattle.tree.proofs.Size.{some-rows}
+use Rattle.tree.proofs.Size.{some-rows, rowCount}
 use Rattle.slot.proofs.Grown.{before-update}
 
 pub before-size : (n : Name) (f : Forest) → size (before n f) + rowCount (find n f) ≤ size f

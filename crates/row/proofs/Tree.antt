@@ -8,8 +8,9 @@ use Prim.Native.Nat.{ℕ, zero, suc, _*_, _<_}
 use borrow.Author.Tests.{ne-eqb}
 use Rattle.tree.specs.Name.{Name}
 use Rattle.tree.specs.Forest.{Content, Forest, Forest.end, Forest.leaf, Forest.dir, Node, Node.absent, Node.file, Node.folder, add, size}
-use Rattle.tree.specs.Rules.{NameRule, ContentRule, Within, WithinNode, WellFormed}
+use Rattle.tree.specs.Rules.{NameRule, ContentRule, Within, WellFormed}
 use Rattle.tree.proofs.Order.{compare-refl, compare-below, compare-above}
+use Rattle.tree.proofs.Rules.{WithinNode}
 use Rattle.row.specs.Table.{Row, rows, depth, kind, name, content}
 use Rattle.row.specs.Tree.{fileRow, folderRow, rowsOf, nodeRows, rootName, table, entryOf, siblings, treeOf}
 use Rattle.row.proofs.Flat.{Whole, whole-append, length-flat, rows-flat}

@@ -15,7 +15,7 @@ use Rattle.settle.specs.Resume.{Sides, after, In, keepIf, keep, isClash,
 use Rattle.settle.proofs.Induct.{NotBoth, settle-ind, settle-single}
 use Rattle.settle.proofs.Lines.{linesOf}
 use Rattle.settle.proofs.Listed.{plan-in}
-use Rattle.settle.proofs.Picks.{Result.left, Result.right, settles}
+use Rattle.settle.proofs.Picks.{Result, Result.left, Result.right, to, to-below, settles}
 use Rattle.settle.proofs.Outcome.{un-folder}
 use Rattle.settle.proofs.Plan.{new-find, newNode}
 use Rattle.settle.proofs.Sorted.{sorted-new}
@@ -59,16 +59,19 @@ unmoved-single o l r nb so sl sr = rw (settle-single o l r nb) (go (decide o l r
 
 unmoved-pair : (o : Node) (l r : Forest) → ((n : Name) → Unmoved (find n (kids o)) (find n l) (find n r)) → Unmoved o (folder l) (folder r)
 unfolding settle
-unmoved-pair o l r ih so sl sr h = (
-  ap folder (find-ext _ l (sorted-new toLeft (settles left) k l r sk sl sr) sl (λ n. new-find toLeft (settles left .agrees) k l r n ∙ here n .0)),
-  ap folder (find-ext _ r (sorted-new toRight (settles right) k l r sk sl sr) sr (λ n. new-find toRight (settles right .agrees) k l r n ∙ here n .1)),
-)
+unmoved-pair o l r ih so sl sr h = (whole left l sl (λ n. here n .0), whole right r sr (λ n. here n .1))
   where
     k : Forest
     k = kids o
 
     sk : Sorted k
     sk = sorted-kids o so
+
+    whole : (s : Result) (x : Forest) → Sorted x → ((n : Name) → newNode (to s) (settle (find n k) (find n l) (find n r)) ≡ find n x)
+        → folder (new (to s) (plan k l r)) ≡ folder x
+    whole s x sx e =
+        ap folder (find-ext _ x (sorted-new (to s) (settles s) k l r sk sl sr) sx
+        (λ n. new-find (to s) (settles s .agrees) k l r n ∙ rw (to-below s n) (e n)))
 
     here : (n : Name) → (newNode toLeft (settle (find n k) (find n l) (find n r)) ≡ find n l) × (newNode toRight (settle (find n k) (find n l) (find n r)) ≡ find n r)
     here n = ih n (sorted-child n o so) (sorted-find n l sl) (sorted-find n r sr) (λ p d i. h (n ∷ p) d (plan-in n p d k l r i))

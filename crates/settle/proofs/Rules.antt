@@ -6,9 +6,9 @@ use lib.ListN.{length}
 use Prim.Native.Nat.{Ordering, Ordering·eq, Ordering·gt, Ordering·lt, suc, zero, ℕ, _+_, _-_, _≤_}
 use Rattle.tree.specs.Forest.{Content, Forest, Forest.dir, Forest.end, Forest.leaf, Node, Node.folder, find, kids, TreePath, at}
 use Rattle.tree.specs.Name.{Name, byOrder, cmp}
-use Rattle.tree.specs.Rules.{Within, WithinNode, NameRule, ContentRule, WellFormed, AllNames}
+use Rattle.tree.specs.Rules.{Within, NameRule, ContentRule, WellFormed, AllNames}
 use Rattle.tree.specs.Put.{put}
-use Rattle.tree.proofs.Rules.{under, under-length, within-find, within-kids, within-add, within-at, within-put}
+use Rattle.tree.proofs.Rules.{under, under-length, within-find, within-kids, within-add, within-at, within-put, WithinNode}
 use Rattle.tree.proofs.Forest.{sorted-kids, sorted-at}
 use Rattle.tree.proofs.Put.{sorted-put}
 use Rattle.settle.specs.Resume.{moved}

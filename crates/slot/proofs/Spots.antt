@@ -8,7 +8,7 @@ use lib.Seq.{drop-drop, drop-append-add}
 use Prim.Native.Nat.{ℕ, suc, _+_, _<_, Ordering, Ordering·lt, Ordering·eq, Ordering·gt}
 use borrow.Author.Tests.{lt-ltb, le-ltb}
 use Rattle.tree.specs.Name.{Name, cmp, byOrder, ifSame}
-use Rattle.tree.specs.Forest.{Forest, Forest.end, Forest.leaf, Forest.dir, Node, Node.absent, Node.file, Node.folder, Above, Sorted, add, find, size, Present, rowCount}
+use Rattle.tree.specs.Forest.{Forest, Forest.end, Forest.leaf, Forest.dir, Node, Node.absent, Node.file, Node.folder, Above, Sorted, add, find, size, Present}
 use Rattle.tree.specs.Rules.{NameRule}
 use Rattle.row.specs.Table.{Row, rowAt, rows, name}
 use Rattle.row.specs.Tree.{fileRow, folderRow, rowsOf, nodeRows}
@@ -18,7 +18,7 @@ use Rattle.stands.specs.Stands.{Ended, Stands, Ruled}
 use Rattle.stands.specs.Around.{before}
 use Rattle.tree.proofs.Forest.{above-trans, find-above}
 use Rattle.tree.proofs.Order.{cmp-eq, cmp-flip, cmp-trans}
-use Rattle.tree.proofs.Size.{size-add}
+use Rattle.tree.proofs.Size.{size-add, rowCount}
 use Rattle.stands.proofs.Rows.{Head, head}
 use Rattle.stands.proofs.Forest.{file-name, folder-name}
 use Rattle.stands.proofs.Entry.{folder-place, stands-child}

@@ -11,7 +11,7 @@ use lib.Seq.{drop-at, drop-drop}
 use Prim.Native.Nat.{ℕ, suc, _+_, _<_, Ordering, Ordering·lt, Ordering·eq, Ordering·gt}
 use borrow.Author.Tests.{lt-ltb, le-ltb, eq-eqb, ne-eqb}
 use Rattle.tree.specs.Name.{Name, cmp, byOrder, ifSame}
-use Rattle.tree.specs.Forest.{Content, Forest, Forest.end, Forest.leaf, Forest.dir, Node, Node.absent, Node.file, Node.folder, Above, Sorted, add, find, size, Present, rowCount}
+use Rattle.tree.specs.Forest.{Content, Forest, Forest.end, Forest.leaf, Forest.dir, Node, Node.absent, Node.file, Node.folder, Above, Sorted, add, find, size, Present}
 use Rattle.tree.specs.Same.{sameWords}
 use Rattle.row.specs.Table.{Row, rows}
 use Rattle.row.specs.Tree.{fileRow, folderRow, rowsOf, nodeRows}
@@ -20,7 +20,7 @@ use Rattle.find.specs.declared.Found.the-variants.{Nothing}
 use Rattle.find.specs.Subtree.{endOf}
 use Rattle.find.specs.Entry.{Stop, Stop.entry, Stop.over, seek, among, found, row, child, upTo, place}
 use Rattle.tree.proofs.Forest.{find-above, above-trans}
-use Rattle.tree.proofs.Size.{size-add}
+use Rattle.tree.proofs.Size.{size-add, rowCount}
 use Rattle.stands.specs.Stands.{Ended, Stands, foundAt, Ruled}
 use Rattle.stands.specs.Around.{before, behind, endedBy, entryEnd}
 use Rattle.stands.proofs.Rows.{Head, head}

@@ -7,8 +7,9 @@ use lib.Seq.{take-at}
 use Prim.Native.Nat.{ℕ, zero, suc, _+_, _<_}
 use borrow.Author.Tests.{lt-ltb, le-ltb}
 use Rattle.tree.specs.Name.{Name}
-use Rattle.tree.specs.Forest.{Content, Forest, Forest.end, Forest.leaf, Forest.dir, Node, Node.absent, Node.file, Node.folder, size, rowCount}
+use Rattle.tree.specs.Forest.{Content, Forest, Forest.end, Forest.leaf, Forest.dir, Node, Node.absent, Node.file, Node.folder, size}
 use Rattle.tree.specs.Rules.{NameRule, ContentRule, Within}
+use Rattle.tree.proofs.Size.{rowCount}
 use Rattle.row.specs.Table.{Row, name}
 use Rattle.row.specs.Tree.{fileRow, folderRow, rowsOf, nodeRows}
 use Rattle.find.specs.Subtree.{run}

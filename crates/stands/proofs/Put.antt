@@ -6,13 +6,14 @@ use native.Mathlib.Nat.{add-zero, zero-add}
 use lib.ListN.{length, take, drop, length-append}
 use Prim.Native.Nat.{ℕ, suc, _+_, _*_}
 use Rattle.tree.specs.Name.{Name}
-use Rattle.tree.specs.Forest.{TreePath, Forest, Node, Node.absent, Node.file, Node.folder, at, find, kids, size, rowCount}
+use Rattle.tree.specs.Forest.{TreePath, Forest, Node, Node.absent, Node.file, Node.folder, at, find, kids, size}
 use Rattle.tree.specs.Put.{update, put, Reaches}
 use Rattle.row.specs.Table.{Row, flat}
 use Rattle.row.specs.Tree.{folderRow, rowsOf, nodeRows}
 use Rattle.find.specs.Entry.{place}
 use Rattle.tree.proofs.Forest.{sorted-at}
 use Rattle.tree.proofs.Put.{put-at, reaches-entry}
+use Rattle.tree.proofs.Size.{rowCount}
 use Rattle.row.proofs.Flat.{Whole, flat-append, length-flat}
 use Rattle.row.proofs.Tree.{length-rows}
 use Rattle.stands.specs.Stands.{Stands, Ruled, Holds}

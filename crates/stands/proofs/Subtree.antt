@@ -6,9 +6,9 @@ use lib.ListN.{length, take, drop, length-append}
 use lib.Seq.{take-at}
 use Prim.Native.Nat.{ℕ, suc, _+_, _*_, _-_, _/_, _%_, _≤_}
 use Rattle.tree.specs.Name.{Name}
-use Rattle.tree.specs.Forest.{Forest, Node, Node.absent, Node.file, Node.folder, size, Present, rowCount}
+use Rattle.tree.specs.Forest.{Forest, Node, Node.absent, Node.file, Node.folder, size, Present}
 use Rattle.tree.specs.Rules.{WellFormed}
-use Rattle.tree.proofs.Size.{some-rows}
+use Rattle.tree.proofs.Size.{some-rows, rowCount}
 use Rattle.row.specs.Table.{Row, rows, flat, depth}
 use Rattle.row.specs.Tree.{folderRow, fileRow, rowsOf, nodeRows, rootName, table}
 use Rattle.find.specs.declared.Found.the-variants.{At}

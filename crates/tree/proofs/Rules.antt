@@ -7,7 +7,7 @@ use Prim.Native.Nat.{ℕ, suc, _+_, _*_, Ordering, Ordering·lt, Ordering·eq, O
 use Rattle.tree.specs.Name.{Name, cmp, ifSame, byOrder}
 use Rattle.tree.specs.Forest.{Content, TreePath, Forest, Forest.end, Node, Node.absent, Node.file, Node.folder, find, kids, at, add, Present}
 use Rattle.tree.specs.Put.{update, put}
-use Rattle.tree.specs.Rules.{Within, WithinNode, AllNames, bytes}
+use Rattle.tree.specs.Rules.{Within, AllNames, bytes}
 use Rattle.tree.proofs.Forest.{siblings-ind, find-add}
 use Rattle.tree.proofs.Put.{update-add}
 
@@ -25,6 +25,12 @@ pub length-bytes : (w : List ℕ) → length (bytes w) ≡ 4 * length w
 unfolding bytes
 length-bytes [] = refl
 length-bytes (x ∷ xs) = omega (arith, length-bytes xs)
+
+-- the rules of what stands at one place
+abbrev pub WithinNode : (Name → Type 0) → (Content → Type 0) → ℕ → Node → Type 0
+WithinNode P Q d absent = Unit {0}
+WithinNode P Q d (file c) = Q c
+WithinNode P Q d (folder k) = Within P Q d k
 
 module _ (P : Name → Type 0) (Q : Content → Type 0) where
   pub within-parts : (d : ℕ) (m : Name) (y : Node) (s : Forest) → Present y → Within P Q (suc d) (add m y s)

@@ -2,12 +2,18 @@
 use mathlib.Core.Path.{_≡_, refl, ap}
 use mathlib.Core.List.{[], _∷_}
 use native.Mathlib.Omega.{arith}
-use Prim.Native.Nat.{_+_, _<_, Ordering, Ordering·lt, Ordering·eq, Ordering·gt}
+use Prim.Native.Nat.{ℕ, suc, _+_, _<_, Ordering, Ordering·lt, Ordering·eq, Ordering·gt}
 use Rattle.tree.specs.Name.{Name, cmp, byOrder, ifSame}
-use Rattle.tree.specs.Forest.{TreePath, Forest, Forest.end, Node, Node.absent, Node.file, Node.folder, find, at, add, size, rowCount, Above, Sorted, SortedNode, Present}
+use Rattle.tree.specs.Forest.{TreePath, Forest, Forest.end, Node, Node.absent, Node.file, Node.folder, find, at, add, size, Above, Sorted, SortedNode, Present}
 use Rattle.tree.specs.Put.{update, put, Reaches}
 use Rattle.tree.proofs.Forest.{siblings-ind, find-add, sorted-parts, above-trans, find-above, sorted-find}
 use Rattle.tree.proofs.Put.{update-add}
+
+-- a node, and the entries beneath it
+abbrev pub rowCount : Node → ℕ
+rowCount absent = 0
+rowCount (file c) = 1
+rowCount (folder k) = suc (size k)
 
 pub size-add : (n : Name) (x : Node) (s : Forest) → size (add n x s) ≡ rowCount x + size s
 unfolding size

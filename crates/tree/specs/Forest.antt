@@ -56,12 +56,6 @@ size end = 0
 size (leaf n c s) = suc (size s)
 size (dir n k s) = suc (size k + size s)
 
--- a node, and the entries beneath it
-abbrev pub rowCount : Node → ℕ
-rowCount absent = 0
-rowCount (file c) = 1
-rowCount (folder k) = suc (size k)
-
 -- every sibling's name comes after n
 unfoldable pub Above : Name → Forest → Type 0
 Above n end = Unit {0}

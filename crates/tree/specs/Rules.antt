@@ -6,7 +6,7 @@ use lib.Dec.{eqb}
 use lib.ListN.{length, getD}
 use Prim.Native.Nat.{ℕ, zero, suc, _/_, _%_, _<_}
 use Rattle.tree.specs.Name.{Name}
-use Rattle.tree.specs.Forest.{Content, TreePath, Forest, Forest.end, Forest.leaf, Forest.dir, Node, Node.absent, Node.file, Node.folder, Sorted}
+use Rattle.tree.specs.Forest.{Content, TreePath, Forest, Forest.end, Forest.leaf, Forest.dir, Sorted}
 
 -- every word is one of 32 bits
 unfoldable pub Words32 : List ℕ → Type 0
@@ -51,11 +51,6 @@ Within P Q zero (leaf n c s) = ⊥
 Within P Q (suc d) (leaf n c s) = P n × Q c × Within P Q (suc d) s
 Within P Q zero (dir n k s) = ⊥
 Within P Q (suc d) (dir n k s) = P n × Within P Q d k × Within P Q (suc d) s
-
-abbrev pub WithinNode : (Name → Type 0) → (Content → Type 0) → ℕ → Node → Type 0
-WithinNode P Q d absent = Unit {0}
-WithinNode P Q d (file c) = Q c
-WithinNode P Q d (folder k) = Within P Q d k
 
 -- P of every name of a path
 unfoldable pub AllNames : (Name → Type 0) → TreePath → Type 0
