@@ -50,6 +50,10 @@ module _ (p : Profile) where
       ap folder (fold-updateIn n (putIn p q x (entry p (key p n) f)) f
       ∙ rw (fold-putIn q x (entry p (key p n) f), entry-fold p (key p n) f))
 
+  pub path-append : (q r : TreePath) → foldPath p (q ++ r) ≡ foldPath p q ++ foldPath p r
+  path-append [] r = refl
+  path-append (n ∷ q) r = ap (λ (x : TreePath). key p n ∷ x) (path-append q r)
+
   -- what is put below a folder leaves it a folder
   pub putIn-folder : (q : TreePath) (n : Name) (x : Node) (f : Forest) → folder (kids (putIn p (q ++ (n ∷ [])) x (folder f))) ≡ putIn p (q ++ (n ∷ [])) x (folder f)
   unfolding putIn
