@@ -6,7 +6,7 @@ use lib.ListN.{length, set, length-set}
 use lib.Seq.{set-getD, set-set}
 use Prim.Native.Nat.{ℕ, suc, _-_, _<_, _≤_}
 use Rattle.tree.specs.Name.{Name}
-use Rattle.tree.specs.Forest.{Content, Forest, Forest.end, Node, Node.absent, Node.file, Node.folder, TreePath, Present, Sorted, SortedNode, size}
+use Rattle.tree.specs.Forest.{Content, Forest, Forest.end, Node, Node.file, Node.folder, TreePath, Present, Sorted, SortedNode, size}
 use Rattle.tree.specs.Key.{fold, foldNode, updateIn}
 use Rattle.tree.specs.declared.Profile.{Profile}
 use Rattle.tree.proofs.Never.{never}
