@@ -12,7 +12,7 @@ use Rattle.rules.specs.declared.Answer.the-variants.{Accepted, Refused}
 use Rattle.rules.specs.declared.Checked.{Checked}
 use Rattle.rules.specs.declared.Checked.the-variants.{Fine, BadLength, BadRow}
 use Rattle.rules.specs.Answer.{isAccepted}
-use Rattle.rules.specs.Refusal.{refusalOf, twinsDue}
+use Rattle.rules.specs.Refusal.{refusalOf}
 use Rattle.rules.specs.Faults.{firstRefusal, unless, roomRule}
 
 pub first-passed : (a : Answer) (more : List Answer) (last : Answer) → isAccepted (firstRefusal (a ∷ more) last) ≡ true
@@ -37,11 +37,6 @@ pub refusal-fine : (c : Checked) (side : ℕ) → isAccepted (refusalOf c side) 
 refusal-fine Fine side h = refl
 refusal-fine BadLength side h = never (cc)
 refusal-fine (BadRow i) side h = never (cc)
-
-pub twins-fine : (c : Checked) (side : ℕ) → (c ≡ BadLength → ⊥) → isAccepted (twinsDue c side) ≡ true → c ≡ Fine
-twins-fine Fine side n h = refl
-twins-fine BadLength side n h = absurd (n refl)
-twins-fine (BadRow i) side n h = never (cc)
 
 pub unless-true : (b : Bool) (number side : ℕ) → isAccepted (unless b number side) ≡ true → b ≡ true
 unless-true true number side h = refl
