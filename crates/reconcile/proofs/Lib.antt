@@ -2,4 +2,5 @@
 pub mod Accepted
 pub mod Planned
 pub mod Steps
+pub mod Turns
 pub mod OneOutcome

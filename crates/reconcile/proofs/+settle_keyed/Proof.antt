@@ -1,6 +1,11 @@
+-- `settle_keyed` keys the first table and goes on with it behind the others; the tables left to key fall.
+use mathlib.Core.Path.{sym, ap, _∙_}
+use lib.ListN.{length, take, length-replicate}
+use lib.Seq.{length-take-le}
+use Rattle.reconcile.proofs.Turns.{turns-done, turn, keys-front, three-turned}
 use native.Mathlib.Omega.{arith}
 use borrow.Author.Needs.{needs}
-use Prim.Native.Nat.{ℕ, _<_}
+use Prim.Native.Nat.{ℕ, _<_, _≤_}
 use borrow.Fn.Kinds.{In}
 use borrow.Fn.PlainCycle.{Measures, is, falls, and}
 use Rattle.reconcile.proofs.settle_keyed.Reads as settle-keyed
@@ -12,7 +17,7 @@ use Rattle.reconcile.proofs.+settle_keyed.{statement}
 use Rattle.reconcile.proofs.+settle_keyed.Tie.{close}
 
 abbrev μ-settle-keyed : Measures 4 settle-keyed-kinds.ps ℕ
-μ-settle-keyed κs a = ?
+μ-settle-keyed κs a = a .0
 
 abbrev settle-keyed-at : ℕ → In 4 settle-keyed-kinds.ps
 settle-keyed-at t =
@@ -35,7 +40,11 @@ settle-keyed-settle-requires : (t : ℕ) → settle-keyed-lts.Need-settle-requir
   settle-keyed-below t,
   settle-keyed.Post,
 ) (settle-keyed-at t) settle-keyed.Post
-settle-keyed-settle-requires t c κs = search needs
+settle-keyed-settle-requires t c κs =
+    let s = c .before .before .before .before .before .before in
+    let a = s .args in
+    let e = turns-done (a .n) (a .o .now) (a .l .now) (a .r .now) (omega arith) in
+    (s .pre .1 .0, rw e at (s .pre .1 .1))
 
 -- src/lib.rt:114:9
 settle-keyed-same-length : (t : ℕ) → settle-keyed-lts.Need-same-length (
@@ -57,7 +66,10 @@ settle-keyed-returns : (t : ℕ) → settle-keyed-lts.Need-returns (
   settle-keyed-below t,
   settle-keyed.Post,
 ) (settle-keyed-at t) settle-keyed.Post
-settle-keyed-returns t c = search needs
+settle-keyed-returns t c =
+    let s = c .before .before .before .before .before .before .before .before .before in
+    let a = s .args in
+    rw (turns-done (a .n) (a .o .now) (a .l .now) (a .r .now) (omega arith)) (c .before .before .settle .ensures)
 
 -- src/lib.rt:117:23
 settle-keyed-slice-aggregate-key-table : (t : ℕ) → settle-keyed-lts.Need-slice-aggregate-key-table (
@@ -79,7 +91,9 @@ settle-keyed-key-table-requires : (t : ℕ) → settle-keyed-lts.Need-key-table-
   settle-keyed-below t,
   settle-keyed.Post,
 ) (settle-keyed-at t) settle-keyed.Post
-settle-keyed-key-table-requires t c κs = search needs
+settle-keyed-key-table-requires t c κs =
+    let s = c .before .before .before .before .before .before in
+    (s .pre .1 .0 .o-whole, omega (arith, length-replicate {A = ℕ} 81920 0, s .pre .1 .0 .o-small))
 
 -- src/lib.rt:119:18
 settle-keyed-sub-settle-keyed : (t : ℕ) → settle-keyed-lts.Need-sub-settle-keyed (
@@ -101,7 +115,9 @@ settle-keyed-array-share-prefix-keys : (t : ℕ) → settle-keyed-lts.Need-array
   settle-keyed-below t,
   settle-keyed.Post,
 ) (settle-keyed-at t) settle-keyed.Post
-settle-keyed-array-share-prefix-keys t c = search needs
+settle-keyed-array-share-prefix-keys t c =
+    let s = c .before .before .before .before .before .before .before .before in
+    omega (arith, c .before .key-table .kept .1 .0, length-replicate {A = ℕ} 81920 0, s .pre .1 .0 .o-small)
 
 -- src/lib.rt:119:31
 settle-keyed-slice-aggregate-settle-keyed :
@@ -113,7 +129,10 @@ settle-keyed-slice-aggregate-settle-keyed :
       settle-keyed-below t,
       settle-keyed.Post,
     ) (settle-keyed-at t) settle-keyed.Post
-settle-keyed-slice-aggregate-settle-keyed t c = search needs
+settle-keyed-slice-aggregate-settle-keyed t c =
+    let s = c .before .before .before .before .before .before .before .before .before in
+    let h : length (s .args .o .now) ≤ length (c .before .before .key-table .last .1 .0) = omega (arith, c .before .before .key-table .kept .1 .0, length-replicate {A = ℕ} 81920 0, s .pre .1 .0 .o-small) in
+    sym (length-take-le _ _ h)
 
 -- src/lib.rt:119:5
 settle-keyed-settle-keyed-requires : (t : ℕ) → settle-keyed-lts.Need-settle-keyed-requires (
@@ -124,7 +143,12 @@ settle-keyed-settle-keyed-requires : (t : ℕ) → settle-keyed-lts.Need-settle-
   settle-keyed-below t,
   settle-keyed.Post,
 ) (settle-keyed-at t) settle-keyed.Post
-settle-keyed-settle-keyed-requires t c κs = search needs
+settle-keyed-settle-keyed-requires t c κs =
+    let s = c .before .before .before .before .before .before .before .before .before .before in
+    let a = s .args in
+    let k = ap (take (length (a .o .now))) (c .before .before .before .key-table .ensures) ∙ keys-front _ (a .o .now) (s .pre .1 .0 .o-whole) in
+    let e = turn (a .n) (a .o .now) (a .l .now) (a .r .now) (omega arith) in
+    (omega (arith, s .pre .0), (rw k (three-turned (a .o .now) (a .l .now) (a .r .now) (s .pre .1 .0)), rw k (rw e at (s .pre .1 .1))))
 
 -- src/lib.rt:108:1
 settle-keyed-same-length-2 : (t : ℕ) → settle-keyed-lts.Need-same-length-2 (
@@ -146,7 +170,12 @@ settle-keyed-returns-2 : (t : ℕ) → settle-keyed-lts.Need-returns-2 (
   settle-keyed-below t,
   settle-keyed.Post,
 ) (settle-keyed-at t) settle-keyed.Post
-settle-keyed-returns-2 t c = search needs
+settle-keyed-returns-2 t c =
+    let s = c .before .before .before .before .before .before .before .before .before .before .before .before .before in
+    let a = s .args in
+    let w = c .before .before in
+    let k = ap (take (length (a .o .now))) (w .before .before .before .before .key-table .ensures) ∙ keys-front _ (a .o .now) (s .pre .1 .0 .o-whole) in
+    rw (turn (a .n) (a .o .now) (a .l .now) (a .r .now) (omega arith)) (rw k at (w .settle-keyed .ensures))
 
 pub +settle-keyed-spec : {M : Type 1} → statement M
 +settle-keyed-spec = close μ-settle-keyed λ t. settle-keyed-lts.spec (

@@ -26,7 +26,7 @@ start w = w .before .before .before .before .before .before .before
 
 -- the rooms are tried
 tried : (w : tie.After-answer-with) → (let s = w .before .before .before .before .before .before .before .before .before .before .before .before .before .before .before .before in
-    Tried (s .args .profile) (s .args .o .now) (s .args .l .now) (s .args .r .now) (s .args .plan .now) (w .before .before .before .before .before .before .settle-in .last .1 .1 .1 .0) (w .before .before .before .before .before .before .settle-in .result)
+    Tried (s .args .profile) (s .args .o .now) (s .args .l .now) (s .args .r .now) (s .args .plan .now) (w .before .before .before .before .before .before .settle-in .last .1 .1 .1 .1 .0) (w .before .before .before .before .before .before .settle-in .result)
     (lent (s .args .archive .now) (s .args .left .now) (s .args .right .now) (s .args .list .now) (s .args .old))
     (w .before .before .counts-of .result) (w .before .rooms-due .result) (w .answer-with .result))
 tried w = record {
@@ -51,7 +51,7 @@ counts-of-requires c κs =
     let w = start q in
     let p = w .before .before .before .pre in
     let n = items-most _ _ _ _ (o-sound w) (l-sound w) (r-sound w) _ _ _ (q .settle-in .ensures) in
-    (three _ _ _ _ (p .0 .0) (p .0 .1) (p .0 .2), (passed-some _ _ (p .0 .1), (omega (arith, q .settle-in .kept .1 .1 .1 .0, p .1), omega arith)))
+    (three _ _ _ _ (p .0 .0) (p .0 .1) (p .0 .2), (passed-some _ _ (p .0 .1), (omega (arith, q .settle-in .kept .1 .1 .1 .1 .0, p .1), omega arith)))
 
 write-results-requires : tie.Need-write-results-requires
 write-results-requires c κs =
@@ -59,7 +59,7 @@ write-results-requires c κs =
     let q = w .before .before .before .before .before .before in
     let p = w .before .before .before .before .before .before .before .before .before .before .before .before .before .before .before .before .pre in
     let n = items-most _ _ _ _ (tried w .o-sound) (tried w .l-sound) (tried w .r-sound) _ _ _ (q .settle-in .ensures) in
-    (three _ _ _ _ (p .0 .0) (p .0 .1) (p .0 .2), (passed-some _ _ (p .0 .1), (omega (arith, q .settle-in .kept .1 .1 .1 .0, p .1), spacious (tried w) _ (c .before .before .before .before .before .enum-told .given .1))))
+    (three _ _ _ _ (p .0 .0) (p .0 .1) (p .0 .2), (passed-some _ _ (p .0 .1), (omega (arith, q .settle-in .kept .1 .1 .1 .1 .0, p .1), spacious (tried w) _ (c .before .before .before .before .before .enum-told .given .1))))
 
 counts-requires : tie.Need-counts-requires
 counts-requires c κs =
