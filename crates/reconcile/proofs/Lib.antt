@@ -4,3 +4,4 @@ pub mod Planned
 pub mod Steps
 pub mod Turns
 pub mod OneOutcome
+pub mod Exact

@@ -142,8 +142,7 @@ tables-passed p o l r h =
     let b = first-passed (refusalOf (checkedIn p l) 2) _ (twinsOf p o l r) (a .1) in
     let c = first-both (refusalOf (checkedIn p r) 3) (twinsOf p o l r) (b .1) in
     let d = first-passed (twinsDue (twins p o) 1) _ (twinsDue (twins p r) 3) (c .1) in
-    let e = first-both (twinsDue (twins p l) 2) (twinsDue (twins p r) 3) (d .1) in
-    (
+    let e = first-both (twinsDue (twins p l) 2) (twinsDue (twins p r) 3) (d .1) in (
       record { checked-fine = refusal-fine (checkedIn p o) 1 (a .0); no-twins = twins-fine p o 1 (d .0) },
       record { checked-fine = refusal-fine (checkedIn p l) 2 (b .0); no-twins = twins-fine p l 2 (e .0) },
       record { checked-fine = refusal-fine (checkedIn p r) 3 (c .0); no-twins = twins-fine p r 3 (e .1) },

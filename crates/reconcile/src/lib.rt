@@ -59,7 +59,10 @@ fn tables_due(profile: Profile, o: &[u32], l: &[u32], r: &[u32]) -> Answer
     let left = rules::refusal(rules::check(profile, l), 2);
     let right = rules::refusal(rules::check(profile, r), 3);
     let twins = twins_due(profile, o, l, r);
-    rules::first_of(archive, rules::first_of(left, rules::first_of(right, twins)))
+    rules::first_of(
+        archive,
+        rules::first_of(left, rules::first_of(right, twins)),
+    )
 }
 
 // The rooms' faults: archive, left, right, list. The last four are the words lent.
@@ -235,9 +238,7 @@ pub fn reconcile_plain(
     match due {
         Answer::Accepted { place: _ } => {
             let mut plan = [0u32; 49152];
-            with_plan(
-                profile, o, l, r, archive, left, right, list, old, &mut plan,
-            )
+            with_plan(profile, o, l, r, archive, left, right, list, old, &mut plan)
         }
         Answer::Refused {
             number: _,

@@ -31,152 +31,6 @@ settle-keyed-below t =
     (falls 4 settle-keyed-kinds.ps _<_ μ-settle-keyed t)
     settle-keyed.Pre
 
--- src/lib.rt:114:9
-settle-keyed-settle-requires : (t : ℕ) → settle-keyed-lts.Need-settle-requires (
-  settle-reads.Asked,
-  settle-reads.Learnt,
-  key-table-reads.Asked,
-  key-table-reads.Learnt,
-  settle-keyed-below t,
-  settle-keyed.Post,
-) (settle-keyed-at t) settle-keyed.Post
-settle-keyed-settle-requires t c κs =
-    let s = c .before .before .before .before .before .before in
-    let a = s .args in
-    let e = turns-done (a .n) (a .o .now) (a .l .now) (a .r .now) (omega arith) in
-    (s .pre .1 .0, rw e at (s .pre .1 .1))
-
--- src/lib.rt:114:9
-settle-keyed-same-length : (t : ℕ) → settle-keyed-lts.Need-same-length (
-  settle-reads.Asked,
-  settle-reads.Learnt,
-  key-table-reads.Asked,
-  key-table-reads.Learnt,
-  settle-keyed-below t,
-  settle-keyed.Post,
-) (settle-keyed-at t) settle-keyed.Post
-settle-keyed-same-length t c = search needs
-
--- src/lib.rt:114:9
-settle-keyed-returns : (t : ℕ) → settle-keyed-lts.Need-returns (
-  settle-reads.Asked,
-  settle-reads.Learnt,
-  key-table-reads.Asked,
-  key-table-reads.Learnt,
-  settle-keyed-below t,
-  settle-keyed.Post,
-) (settle-keyed-at t) settle-keyed.Post
-settle-keyed-returns t c =
-    let s = c .before .before .before .before .before .before .before .before .before in
-    let a = s .args in
-    rw (turns-done (a .n) (a .o .now) (a .l .now) (a .r .now) (omega arith)) (c .before .before .settle .ensures)
-
--- src/lib.rt:117:23
-settle-keyed-slice-aggregate-key-table : (t : ℕ) → settle-keyed-lts.Need-slice-aggregate-key-table (
-  settle-reads.Asked,
-  settle-reads.Learnt,
-  key-table-reads.Asked,
-  key-table-reads.Learnt,
-  settle-keyed-below t,
-  settle-keyed.Post,
-) (settle-keyed-at t) settle-keyed.Post
-settle-keyed-slice-aggregate-key-table t c = search needs
-
--- src/lib.rt:117:5
-settle-keyed-key-table-requires : (t : ℕ) → settle-keyed-lts.Need-key-table-requires (
-  settle-reads.Asked,
-  settle-reads.Learnt,
-  key-table-reads.Asked,
-  key-table-reads.Learnt,
-  settle-keyed-below t,
-  settle-keyed.Post,
-) (settle-keyed-at t) settle-keyed.Post
-settle-keyed-key-table-requires t c κs =
-    let s = c .before .before .before .before .before .before in
-    (s .pre .1 .0 .o-whole, omega (arith, length-replicate {A = ℕ} 81920 0, s .pre .1 .0 .o-small))
-
--- src/lib.rt:119:18
-settle-keyed-sub-settle-keyed : (t : ℕ) → settle-keyed-lts.Need-sub-settle-keyed (
-  settle-reads.Asked,
-  settle-reads.Learnt,
-  key-table-reads.Asked,
-  key-table-reads.Learnt,
-  settle-keyed-below t,
-  settle-keyed.Post,
-) (settle-keyed-at t) settle-keyed.Post
-settle-keyed-sub-settle-keyed t c = search needs
-
--- src/lib.rt:119:31
-settle-keyed-array-share-prefix-keys : (t : ℕ) → settle-keyed-lts.Need-array-share-prefix-keys (
-  settle-reads.Asked,
-  settle-reads.Learnt,
-  key-table-reads.Asked,
-  key-table-reads.Learnt,
-  settle-keyed-below t,
-  settle-keyed.Post,
-) (settle-keyed-at t) settle-keyed.Post
-settle-keyed-array-share-prefix-keys t c =
-    let s = c .before .before .before .before .before .before .before .before in
-    omega (arith, c .before .key-table .kept .1 .0, length-replicate {A = ℕ} 81920 0, s .pre .1 .0 .o-small)
-
--- src/lib.rt:119:31
-settle-keyed-slice-aggregate-settle-keyed :
-    (t : ℕ) → settle-keyed-lts.Need-slice-aggregate-settle-keyed (
-      settle-reads.Asked,
-      settle-reads.Learnt,
-      key-table-reads.Asked,
-      key-table-reads.Learnt,
-      settle-keyed-below t,
-      settle-keyed.Post,
-    ) (settle-keyed-at t) settle-keyed.Post
-settle-keyed-slice-aggregate-settle-keyed t c =
-    let s = c .before .before .before .before .before .before .before .before .before in
-    let h : length (s .args .o .now) ≤ length (c .before .before .key-table .last .1 .0) = omega (arith, c .before .before .key-table .kept .1 .0, length-replicate {A = ℕ} 81920 0, s .pre .1 .0 .o-small) in
-    sym (length-take-le _ _ h)
-
--- src/lib.rt:119:5
-settle-keyed-settle-keyed-requires : (t : ℕ) → settle-keyed-lts.Need-settle-keyed-requires (
-  settle-reads.Asked,
-  settle-reads.Learnt,
-  key-table-reads.Asked,
-  key-table-reads.Learnt,
-  settle-keyed-below t,
-  settle-keyed.Post,
-) (settle-keyed-at t) settle-keyed.Post
-settle-keyed-settle-keyed-requires t c κs =
-    let s = c .before .before .before .before .before .before .before .before .before .before in
-    let a = s .args in
-    let k = ap (take (length (a .o .now))) (c .before .before .before .key-table .ensures) ∙ keys-front _ (a .o .now) (s .pre .1 .0 .o-whole) in
-    let e = turn (a .n) (a .o .now) (a .l .now) (a .r .now) (omega arith) in
-    (omega (arith, s .pre .0), (rw k (three-turned (a .o .now) (a .l .now) (a .r .now) (s .pre .1 .0)), rw k (rw e at (s .pre .1 .1))))
-
--- src/lib.rt:108:1
-settle-keyed-same-length-2 : (t : ℕ) → settle-keyed-lts.Need-same-length-2 (
-  settle-reads.Asked,
-  settle-reads.Learnt,
-  key-table-reads.Asked,
-  key-table-reads.Learnt,
-  settle-keyed-below t,
-  settle-keyed.Post,
-) (settle-keyed-at t) settle-keyed.Post
-settle-keyed-same-length-2 t c = search needs
-
--- src/lib.rt:108:1
-settle-keyed-returns-2 : (t : ℕ) → settle-keyed-lts.Need-returns-2 (
-  settle-reads.Asked,
-  settle-reads.Learnt,
-  key-table-reads.Asked,
-  key-table-reads.Learnt,
-  settle-keyed-below t,
-  settle-keyed.Post,
-) (settle-keyed-at t) settle-keyed.Post
-settle-keyed-returns-2 t c =
-    let s = c .before .before .before .before .before .before .before .before .before .before .before .before .before in
-    let a = s .args in
-    let w = c .before .before in
-    let k = ap (take (length (a .o .now))) (w .before .before .before .before .key-table .ensures) ∙ keys-front _ (a .o .now) (s .pre .1 .0 .o-whole) in
-    rw (turn (a .n) (a .o .now) (a .l .now) (a .r .now) (omega arith)) (rw k at (w .settle-keyed .ensures))
-
 pub +settle-keyed-spec : {M : Type 1} → statement M
 +settle-keyed-spec = close μ-settle-keyed λ t. settle-keyed-lts.spec (
   settle-reads.Asked,
@@ -188,14 +42,38 @@ pub +settle-keyed-spec : {M : Type 1} → statement M
 )
     (settle-keyed-at t)
     settle-keyed.Post
-    (settle-keyed-settle-requires t)
-    (settle-keyed-same-length t)
-    (settle-keyed-returns t)
-    (settle-keyed-slice-aggregate-key-table t)
-    (settle-keyed-key-table-requires t)
-    (settle-keyed-sub-settle-keyed t)
-    (settle-keyed-array-share-prefix-keys t)
-    (settle-keyed-slice-aggregate-settle-keyed t)
-    (settle-keyed-settle-keyed-requires t)
-    (settle-keyed-same-length-2 t)
-    (settle-keyed-returns-2 t)
+    (λ c κs.
+    let s = c .before .before .before .before .before .before in
+    let a = s .args in
+    let e = turns-done (a .n) (a .o .now) (a .l .now) (a .r .now) (omega arith) in
+    (s .pre .1 .0, rw e at (s .pre .1 .1)))
+    (λ c. search needs)
+    (λ c.
+    let s = c .before .before .before .before .before .before .before .before .before in
+    let a = s .args in
+    rw (turns-done (a .n) (a .o .now) (a .l .now) (a .r .now) (omega arith)) (c .before .before .settle .ensures))
+    (λ c. search needs)
+    (λ c κs.
+    let s = c .before .before .before .before .before .before in
+    (s .pre .1 .0 .o-whole, omega (arith, length-replicate {A = ℕ} 81920 0, s .pre .1 .0 .o-small)))
+    (λ c. search needs)
+    (λ c.
+    let s = c .before .before .before .before .before .before .before .before in
+    omega (arith, c .before .key-table .kept .1 .0, length-replicate {A = ℕ} 81920 0, s .pre .1 .0 .o-small))
+    (λ c.
+    let s = c .before .before .before .before .before .before .before .before .before in
+    let h : length (s .args .o .now) ≤ length (c .before .before .key-table .last .1 .0) = omega (arith, c .before .before .key-table .kept .1 .0, length-replicate {A = ℕ} 81920 0, s .pre .1 .0 .o-small) in
+    sym (length-take-le _ _ h))
+    (λ c κs.
+    let s = c .before .before .before .before .before .before .before .before .before .before in
+    let a = s .args in
+    let k = ap (take (length (a .o .now))) (c .before .before .before .key-table .ensures) ∙ keys-front _ (a .o .now) (s .pre .1 .0 .o-whole) in
+    let e = turn (a .n) (a .o .now) (a .l .now) (a .r .now) (omega arith) in
+    (omega (arith, s .pre .0), (rw k (three-turned (a .o .now) (a .l .now) (a .r .now) (s .pre .1 .0)), rw k (rw e at (s .pre .1 .1)))))
+    (λ c. search needs)
+    (λ c.
+    let s = c .before .before .before .before .before .before .before .before .before .before .before .before .before in
+    let a = s .args in
+    let w = c .before .before in
+    let k = ap (take (length (a .o .now))) (w .before .before .before .before .key-table .ensures) ∙ keys-front _ (a .o .now) (s .pre .1 .0 .o-whole) in
+    rw (turn (a .n) (a .o .now) (a .l .now) (a .r .now) (omega arith)) (rw k at (w .settle-keyed .ensures)))

@@ -1,41 +1,21 @@
 -- `settle_in` settles the tables themselves where every byte counts, else their keyed copies.
 use Rattle.reconcile.proofs.Turns.{turned-thrice, settled-exact}
-use native.Mathlib.Omega.{arith}
 use borrow.Author.Needs.{needs}
 use Rattle.reconcile.proofs.settle_in.Statement.{statement}
 use Rattle.reconcile.proofs.settle_in.Tie as tie
-use Rattle.reconcile.proofs.settle_in.Reads as reads
-use Rattle.reconcile.proofs.settle_in.Lts as lts
-use Rattle.plan_write.proofs.settle.Reads as settle-reads
-use Rattle.reconcile.proofs.settle_keyed.Reads as settle-keyed-reads
 
--- src/lib.rt:129:55
-enum-told : tie.Need-enum-told
-enum-told c = search needs
-
--- src/lib.rt:129:27
 settle-requires : tie.Need-settle-requires
 settle-requires c κs =
     let s = c .before .before .before .before .before .before .before in
     let a = s .args in
     (s .pre .0, rw (c .before .enum-told .given .1, settled-exact (a .o .now) (a .l .now) (a .r .now) (s .pre .0)) at (s .pre .1))
 
--- src/lib.rt:130:53
-enum-told-2 : tie.Need-enum-told-2
-enum-told-2 c = search needs
-
--- src/lib.rt:130:28
 settle-keyed-requires : tie.Need-settle-keyed-requires
 settle-keyed-requires c κs =
     let s = c .before .before .before .before .before .before .before in
     let a = s .args in
     (s .pre .0, rw (turned-thrice (a .o .now) (a .l .now) (a .r .now)) (rw (c .before .enum-told2 .given .1) at (s .pre .1)))
 
--- src/lib.rt:123:1
-same-length : tie.Need-same-length
-same-length c = search needs
-
--- src/lib.rt:123:1
 returns : tie.Need-returns
 returns c =
     let s = c .before .before .before .before .before .before .before .before .before .before in
@@ -43,11 +23,6 @@ returns c =
     let w = c .before .before in
     rw (w .before .before .enum-told .given .1, settled-exact (a .o .now) (a .l .now) (a .r .now) (s .pre .0)) (w .settle .ensures)
 
--- src/lib.rt:123:1
-same-length-2 : tie.Need-same-length-2
-same-length-2 c = search needs
-
--- src/lib.rt:123:1
 returns-2 : tie.Need-returns-2
 returns-2 c =
     let a = c .before .before .before .before .before .before .before .before .before .before .args in
@@ -58,11 +33,11 @@ pub settle-in-spec : {M : Type 1} → statement M
 settle-in-spec =
     tie.close
     (tie.spec
-    enum-told
+    (λ c. search needs)
     settle-requires
-    enum-told-2
+    (λ c. search needs)
     settle-keyed-requires
-    same-length
+    (λ c. search needs)
     returns
-    same-length-2
+    (λ c. search needs)
     returns-2)
