@@ -5,14 +5,13 @@ use mathlib.Core.List.{List, [], _∷_}
 use native.Mathlib.Omega.{arith}
 use lib.ListN.{length, getD}
 use Prim.Native.Nat.{ℕ, suc, _*_, _/_, _%_, _≤_}
-use Rattle.tree.specs.Forest.{Forest, Node.folder, size}
-use Rattle.tree.specs.Rules.{NameRule, ContentRule, Within}
+use Rattle.tree.specs.Forest.{Forest, size}
 use Rattle.tree.specs.declared.Profile.{Profile}
 use Rattle.tree.specs.Key.{fold, FormedIn}
 use Rattle.tree.proofs.Folds.{size-fold}
 use Rattle.settle.specs.Plan.{plan}
 use Rattle.settle.specs.Results.{Line.line, Lines}
-use Rattle.row.specs.Tree.{nodeRows, rootName, table, treeOf}
+use Rattle.row.specs.Tree.{table, treeOf}
 use Rattle.row.specs.Keyed.{keyed}
 use Rattle.rules.specs.Keyed.{Passes}
 use Rattle.plan.specs.Items.{items, wordsOf, listWords, planWords}
@@ -24,8 +23,7 @@ use Rattle.results.specs.Decisions.{decisions, pieces}
 use Rattle.results.specs.Pieces.{newTree, pieceList}
 use mir.Syntax.{w32}
 use mir.Val.{Fits}
-use Rattle.row.proofs.Flat.{Whole, length-flat}
-use Rattle.row.proofs.Tree.{length-rows, whole-rowsOf}
+use Rattle.row.proofs.Tree.{length-table}
 use Rattle.rules.proofs.Small.{small-all}
 use Rattle.rules.proofs.Keyed.{passed-whole, passed-words, passed-rows, passed-formed, passed-most}
 use Rattle.settle.proofs.Spelled.{formed-left, formed-right, formed-archive}
@@ -46,11 +44,6 @@ list-length : (l r : Forest) (xs : Lines) → length (listWords l r xs) ≡ 3 * 
 unfolding wordsOf
 list-length l r [] = refl
 list-length l r (line p d ∷ xs) = omega (arith, list-length l r xs)
-
--- a tree's table has a row for the root and one for each entry
-pub table-rows : (f : Forest) → Within NameRule ContentRule 16 f → length (table f) ≡ 20 * suc (size f)
-unfolding table nodeRows Whole
-table-rows f W = length-flat (nodeRows 0 rootName (folder f)) (refl, whole-rowsOf 16 1 f W) ∙ ap (λ (n : ℕ). 20 * suc n) (length-rows 1 f)
 
 module _ (p : Profile) where
   formed : (w : List ℕ) → Sound p w → FormedIn p (treeOf w)
@@ -145,7 +138,7 @@ module _ (p : Profile) where
 
       -- the rows of a table of n rows
       rows-of : (t : Tree) → length (newTree t o l r (decisions (q / 4) e)) / 20 ≡ suc (size (newIn t))
-      rows-of t = let x = ap length (tree t) in let y = table-rows (newIn t) (formed-in t .within) in omega arith
+      rows-of t = let x = ap length (tree t) in let y = length-table (newIn t) (formed-in t .within) in omega arith
 
       pub planned-words : plannedWords o l r (decisions (q / 4) e) ≡ outcomeWords o l r
       unfolding newIn
@@ -159,7 +152,7 @@ module _ (p : Profile) where
 
       -- whole rows, and whole entries
       pub whole-rows : (t : Tree) → length (newTree t o l r (decisions (q / 4) e)) % 20 ≡ 0
-      whole-rows t = let x = ap length (tree t) in let y = table-rows (newIn t) (formed-in t .within) in omega arith
+      whole-rows t = let x = ap length (tree t) in let y = length-table (newIn t) (formed-in t .within) in omega arith
 
       pub whole-lines : length (pieces pieceList (decisions (q / 4) e)) % 3 ≡ 0
       whole-lines = omega (arith, ap length lines, list-length L R (given p o l r .lines))
