@@ -12,9 +12,9 @@ use Rattle.row.proofs.Keyed.{length-keyed, keyed-exact}
 use Rattle.plan.specs.Settle.{Three, settled}
 use Rattle.reconcile.specs.Steps.{settledAfter}
 
-pub turns-done : (n : ℕ) (o l r : List ℕ) → n ≡ 0 → settledAfter n o l r ≡ settled o l r
+pub last-turn : (n : ℕ) (o l r : List ℕ) → n ≡ 0 → settledAfter n o l r ≡ settled l r (keyed Folded o)
 unfolding settledAfter
-turns-done n o l r e = rw e
+last-turn n o l r e = rw e
 
 pub turn : (n : ℕ) (o l r : List ℕ) → 0 < n → settledAfter n o l r ≡ settledAfter (n - 1) l r (keyed Folded o)
 unfolding settledAfter
@@ -22,9 +22,9 @@ turn zero o l r h = absurd (omega arith)
 turn (suc n) o l r h = let e : suc n - 1 ≡ n = omega arith in rw e
 
 -- the keyed table in the array
-pub keys-front : (d o : List ℕ) → length o % 20 ≡ 0 → take (length o) (over d (keyed Folded o)) ≡ keyed Folded o
+pub keys-front : (d e o : List ℕ) → length o % 20 ≡ 0 → e ≡ over d (keyed Folded o) → take (length o) e ≡ keyed Folded o
 unfolding over
-keys-front d o h = take-at (keyed Folded o) (drop (length (keyed Folded o)) d) (length o) (length-keyed Folded o h)
+keys-front d e o h k = rw k (take-at (keyed Folded o) (drop (length (keyed Folded o)) d) (length o) (length-keyed Folded o h))
 
 pub three-turned : (o l r : List ℕ) → Three o l r → Three l r (keyed Folded o)
 three-turned o l r T =
@@ -38,7 +38,7 @@ three-turned o l r T =
       r-whole = rw e (T .o-whole);
     }
 
-pub turned-thrice : (o l r : List ℕ) → settledAfter 3 o l r ≡ settled (keyed Folded o) (keyed Folded l) (keyed Folded r)
+pub turned-thrice : (o l r : List ℕ) → settledAfter 2 o l r ≡ settled (keyed Folded o) (keyed Folded l) (keyed Folded r)
 unfolding settledAfter
 turned-thrice o l r = refl
 

@@ -19,10 +19,10 @@ use Rattle.reconcile.specs.declared.Counts.{Counts}
 use Rattle.reconcile.specs.Answer.{answerWith}
 use Rattle.reconcile.specs.Run.{given, Lent, countsOf, roomDue, filled}
 
--- the plan of three tables of which the first n are still to be keyed: the first is keyed and goes behind the others, so
--- that after three turns all are keyed, and in their order
+-- the plan of three tables of which the first is to be keyed, and n more after it: each is keyed and goes behind the others, so
+-- that where n is 2 all are keyed, and in their order
 unfoldable pub settledAfter : ℕ → List ℕ → List ℕ → List ℕ → List ℕ
-settledAfter zero o l r = settled o l r
+settledAfter zero o l r = settled l r (keyed Folded o)
 settledAfter (suc n) o l r = settledAfter n l r (keyed Folded o)
 
 -- the words of the new archive, left and right, and of the list

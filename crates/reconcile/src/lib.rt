@@ -106,19 +106,19 @@ fn answer_with(due: Answer, c: Counts) -> Reconciled
     }
 }
 
-// The plan of three tables of which the first n are still to be keyed, at the start of a buffer; how many words it has.
-// Each turn has one table's keys, so that a frame holds one array.
+// The plan of three tables of which the first is to be keyed, and n more after it, at the start of a buffer; how many words
+// it has. Each call has one table's keys, so that a run that needs none has no room for them.
 fn settle_keyed(n: usize, o: &[u32], l: &[u32], r: &[u32], plan: &mut [u32]) -> usize
     requires { ⌜ Three (now o) (now l) (now r) ⌝ }
     requires { ⌜ length (settledAfter n (now o) (now l) (now r)) ≤ length (now plan) ⌝ }
     ensures { λ q. ⌜ Fills (now (plan .entry)) (settledAfter n (now (o .entry)) (now (l .entry)) (now (r .entry))) (now (plan .exit)) q ⌝ }
 {
-    if n == 0 {
-        return plan_write::settle(o, l, r, plan);
-    }
     let mut keys = [0u32; 81920];
     row::key_table(o, &mut keys);
     let e = o.len();
+    if n == 0 {
+        return plan_write::settle(l, r, &keys[..e], plan);
+    }
     settle_keyed(n - 1, l, r, &keys[..e], plan)
 }
 
@@ -130,7 +130,7 @@ fn settle_in(profile: Profile, o: &[u32], l: &[u32], r: &[u32], plan: &mut [u32]
 {
     match profile {
         Profile::Exact => plan_write::settle(o, l, r, plan),
-        Profile::Folded => settle_keyed(3, o, l, r, plan),
+        Profile::Folded => settle_keyed(2, o, l, r, plan),
     }
 }
 

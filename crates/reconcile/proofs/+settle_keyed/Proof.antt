@@ -1,8 +1,8 @@
 -- `settle_keyed` keys the first table and goes on with it behind the others; the tables left to key fall.
-use mathlib.Core.Path.{sym, ap, _∙_}
-use lib.ListN.{length, take, length-replicate}
+use mathlib.Core.Path.{sym}
+use lib.ListN.{length, length-replicate}
 use lib.Seq.{length-take-le}
-use Rattle.reconcile.proofs.Turns.{turns-done, turn, keys-front, three-turned}
+use Rattle.reconcile.proofs.Turns.{last-turn, turn, keys-front, three-turned}
 use native.Mathlib.Omega.{arith}
 use borrow.Author.Needs.{needs}
 use Prim.Native.Nat.{ℕ, _<_, _≤_}
@@ -33,47 +33,61 @@ settle-keyed-below t =
 
 pub +settle-keyed-spec : {M : Type 1} → statement M
 +settle-keyed-spec = close μ-settle-keyed λ t. settle-keyed-lts.spec (
-  settle-reads.Asked,
-  settle-reads.Learnt,
   key-table-reads.Asked,
   key-table-reads.Learnt,
+  settle-reads.Asked,
+  settle-reads.Learnt,
   settle-keyed-below t,
   settle-keyed.Post,
 )
     (settle-keyed-at t)
     settle-keyed.Post
+    (λ c. search needs)
     (λ c κs.
-    let s = c .before .before .before .before .before .before in
+    let s = c .before .before .before .before .before in
+    (s .pre .1 .0 .o-whole, omega (arith, length-replicate {A = ℕ} 81920 0, s .pre .1 .0 .o-small)))
+    (λ c.
+    let s = c .before .before .before .before .before .before .before .before in
+    omega (arith, c .before .before .key-table .kept .1 .0, length-replicate {A = ℕ} 81920 0, s .pre .1 .0 .o-small))
+    (λ c.
+    let k = c .before .before .before in
+    let s = k .before .before .before .before .before .before in
+    let h : length (s .args .o .now) ≤ length (k .key-table .last .1 .0) = omega (arith, k .key-table .kept .1 .0, length-replicate {A = ℕ} 81920 0, s .pre .1 .0 .o-small) in
+    sym (length-take-le _ _ h))
+    (λ c κs.
+    let k = c .before .before .before .before in
+    let s = k .before .before .before .before .before .before in
     let a = s .args in
-    let e = turns-done (a .n) (a .o .now) (a .l .now) (a .r .now) (omega arith) in
-    (s .pre .1 .0, rw e at (s .pre .1 .1)))
+    let f = keys-front _ _ (a .o .now) (s .pre .1 .0 .o-whole) (k .key-table .ensures) in
+    let e = last-turn (a .n) (a .o .now) (a .l .now) (a .r .now) (omega arith) in
+    (rw f (three-turned (a .o .now) (a .l .now) (a .r .now) (s .pre .1 .0)), rw f (rw e at (s .pre .1 .1))))
     (λ c. search needs)
     (λ c.
-    let s = c .before .before .before .before .before .before .before .before .before in
+    let k = c .before .before .before .before .before .before .before in
+    let s = k .before .before .before .before .before .before in
     let a = s .args in
-    rw (turns-done (a .n) (a .o .now) (a .l .now) (a .r .now) (omega arith)) (c .before .before .settle .ensures))
-    (λ c. search needs)
-    (λ c κs.
-    let s = c .before .before .before .before .before .before in
-    (s .pre .1 .0 .o-whole, omega (arith, length-replicate {A = ℕ} 81920 0, s .pre .1 .0 .o-small)))
+    let f = keys-front _ _ (a .o .now) (s .pre .1 .0 .o-whole) (k .key-table .ensures) in
+    rw (last-turn (a .n) (a .o .now) (a .l .now) (a .r .now) (omega arith)) (rw f at (c .before .before .settle .ensures)))
     (λ c. search needs)
     (λ c.
     let s = c .before .before .before .before .before .before .before .before in
-    omega (arith, c .before .key-table .kept .1 .0, length-replicate {A = ℕ} 81920 0, s .pre .1 .0 .o-small))
+    omega (arith, c .before .before .key-table .kept .1 .0, length-replicate {A = ℕ} 81920 0, s .pre .1 .0 .o-small))
     (λ c.
-    let s = c .before .before .before .before .before .before .before .before .before in
-    let h : length (s .args .o .now) ≤ length (c .before .before .key-table .last .1 .0) = omega (arith, c .before .before .key-table .kept .1 .0, length-replicate {A = ℕ} 81920 0, s .pre .1 .0 .o-small) in
+    let k = c .before .before .before in
+    let s = k .before .before .before .before .before .before in
+    let h : length (s .args .o .now) ≤ length (k .key-table .last .1 .0) = omega (arith, k .key-table .kept .1 .0, length-replicate {A = ℕ} 81920 0, s .pre .1 .0 .o-small) in
     sym (length-take-le _ _ h))
     (λ c κs.
-    let s = c .before .before .before .before .before .before .before .before .before .before in
+    let k = c .before .before .before .before in
+    let s = k .before .before .before .before .before .before in
     let a = s .args in
-    let k = ap (take (length (a .o .now))) (c .before .before .before .key-table .ensures) ∙ keys-front _ (a .o .now) (s .pre .1 .0 .o-whole) in
+    let f = keys-front _ _ (a .o .now) (s .pre .1 .0 .o-whole) (k .key-table .ensures) in
     let e = turn (a .n) (a .o .now) (a .l .now) (a .r .now) (omega arith) in
-    (omega (arith, s .pre .0), (rw k (three-turned (a .o .now) (a .l .now) (a .r .now) (s .pre .1 .0)), rw k (rw e at (s .pre .1 .1)))))
+    (omega (arith, s .pre .0), (rw f (three-turned (a .o .now) (a .l .now) (a .r .now) (s .pre .1 .0)), rw f (rw e at (s .pre .1 .1)))))
     (λ c. search needs)
     (λ c.
-    let s = c .before .before .before .before .before .before .before .before .before .before .before .before .before in
+    let k = c .before .before .before .before .before .before .before in
+    let s = k .before .before .before .before .before .before in
     let a = s .args in
-    let w = c .before .before in
-    let k = ap (take (length (a .o .now))) (w .before .before .before .before .key-table .ensures) ∙ keys-front _ (a .o .now) (s .pre .1 .0 .o-whole) in
-    rw (turn (a .n) (a .o .now) (a .l .now) (a .r .now) (omega arith)) (rw k at (w .settle-keyed .ensures)))
+    let f = keys-front _ _ (a .o .now) (s .pre .1 .0 .o-whole) (k .key-table .ensures) in
+    rw (turn (a .n) (a .o .now) (a .l .now) (a .r .now) (omega arith)) (rw f at (c .before .before .settle-keyed .ensures)))
