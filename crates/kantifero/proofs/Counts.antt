@@ -1,6 +1,6 @@
 -- A reconciliation's place and counts have 32 bits: a row, at most 4,096 rows, at most 12,285 list entries.
 use mathlib.Core.Path.{_≡_, refl}
-use mathlib.Core.List.{List, [], _∷_}
+use mathlib.Core.List.{List, []}
 use mathlib.Core.Bool.{true}
 use native.Mathlib.Omega.{arith}
 use lib.Dec.{leb}
@@ -9,60 +9,74 @@ use mir.Syntax.{w32}
 use mir.Val.{Fits}
 use Prim.Native.Nat.{ℕ, _/_, _≤_}
 use Rattle.tree.specs.Forest.{Sorted}
+use Rattle.tree.specs.declared.Profile.{Profile}
+use Rattle.tree.specs.Key.{fold}
+use Rattle.tree.proofs.Folds.{size-fold}
 use Rattle.row.specs.Tree.{treeOf}
 use Rattle.rules.specs.declared.Answer.{Answer}
 use Rattle.rules.specs.declared.Answer.the-variants.{Accepted, Refused}
-use Rattle.rules.specs.declared.Checked.the-variants.{Fine}
 use Rattle.rules.specs.Answer.{placeOf, isAccepted}
-use Rattle.rules.specs.Rules.{checked}
-use Rattle.rules.specs.Faults.{roomRule}
+use Rattle.rules.specs.Refusal.{refusalOf, twinsDue}
+use Rattle.rules.specs.Keyed.{checkedIn, twins, Passes}
+use Rattle.rules.specs.Faults.{firstRefusal, unless, roomRule}
 use Rattle.rules.proofs.Small.{small-all}
-use Rattle.rules.proofs.Fine.{fine-formed, fine-length, fine-most}
-use Rattle.moves.proofs.Faults.{All}
+use Rattle.rules.proofs.Keyed.{passed-formed, passed-most}
 use Rattle.plan.proofs.Bound.{lines-bound}
 use Rattle.reconcile.specs.Answer.{answerWith}
-use Rattle.reconcile.specs.Run.{given, Lent, countsOf, tablesDue, roomsDue, runDue, runOf}
+use Rattle.reconcile.specs.Run.{given, Lent, countsOf, twinsOf, tablesDue, roomsDue, runDue, runOf}
 use Rattle.reconcile.proofs.Accepted.{Passed, passed}
 use Rattle.kantifero.specs.Words.{Narrow}
-use Rattle.kantifero.proofs.Bounds.{refusal-place, unless-place, first-place}
+use Rattle.kantifero.proofs.Bounds.{refusal-place, twins-place, unless-place, first-place}
 
-module _ (o l r : List ℕ) (b : Lent) where
-  rooms-place : placeOf (runDue o l r b) ≤ 4096
-  unfolding runDue tablesDue roomsDue All
-  rooms-place =
-      let n = countsOf (given o l r) in
-      first-place 4096 (tablesDue o l r ∷ []) _
-      (first-place 4096 _ _ (refusal-place o 1, (refusal-place l 2, tt)) (λ e. refusal-place r 3), tt)
-      (λ e.
-      first-place 4096 _ _ (
-        unless-place (roomRule (n .archive) (length (b .archive))) 3 1,
-        (unless-place (roomRule (n .left) (length (b .left))) 3 2, (unless-place (roomRule (n .right) (length (b .right))) 3 3, tt)),
-      )
-      (λ e. unless-place (leb (n .list) (length (b .list) / 3)) 3 4))
+module _ (p : Profile) (o l r : List ℕ) (b : Lent) where
+  tables-place : placeOf (tablesDue p o l r) ≤ 4096
+  unfolding tablesDue twinsOf firstRefusal
+  tables-place =
+      first-place 4096 (refusalOf (checkedIn p o) 1) _ _ (refusal-place p o 1)
+      (λ x.
+      first-place 4096 (refusalOf (checkedIn p l) 2) _ _ (refusal-place p l 2)
+      (λ y.
+      first-place 4096 (refusalOf (checkedIn p r) 3) [] _ (refusal-place p r 3)
+      (λ z.
+      first-place 4096 (twinsDue (twins p o) 1) _ _ (twins-place p o 1 x)
+      (λ u. first-place 4096 (twinsDue (twins p l) 2) [] _ (twins-place p l 2 y) (λ v. twins-place p r 3 z)))))
+
+  run-place : placeOf (runDue p o l r b) ≤ 4096
+  unfolding runDue roomsDue firstRefusal
+  run-place =
+      let n = countsOf (given p o l r) in
+      first-place 4096 (tablesDue p o l r) [] _ tables-place
+      (λ t.
+      first-place 4096 (unless (roomRule (n .archive) (length (b .archive))) 3 1) _ _ (unless-place (roomRule (n .archive) (length (b .archive))) 3 1)
+      (λ x.
+      first-place 4096 (unless (roomRule (n .left) (length (b .left))) 3 2) _ _ (unless-place (roomRule (n .left) (length (b .left))) 3 2)
+      (λ y.
+      first-place 4096 (unless (roomRule (n .right) (length (b .right))) 3 3) [] _ (unless-place (roomRule (n .right) (length (b .right))) 3 3)
+      (λ z. unless-place (leb (n .list) (length (b .list) / 3)) 3 4))))
 
   module _ (so : (k : ℕ) → Fits w32 (getD o k 0)) (sl : (k : ℕ) → Fits w32 (getD l k 0)) (sr : (k : ℕ) → Fits w32 (getD r k 0)) where
-    sorted : (w : List ℕ) → checked w ≡ Fine → ((k : ℕ) → Fits w32 (getD w k 0)) → Sorted (treeOf w)
-    sorted w f s = fine-formed w f (small-all w (λ k. omega (arith, s k))) .sorted
+    sorted : (w : List ℕ) → Passes p w → ((k : ℕ) → Fits w32 (getD w k 0)) → Sorted (fold p (treeOf w))
+    sorted w P s = passed-formed p w P (small-all w (λ k. omega (arith, s k))) .sorted
 
-    entries : Passed o l r b → length (given o l r .lines) ≤ 12285
+    entries : Passed p o l r b → length (given p o l r .lines) ≤ 12285
     entries P =
         omega (
           arith,
-          lines-bound (treeOf o) (treeOf l) (treeOf r) (sorted o (P .fine-archive) so) (sorted l (P .fine-left) sl) (sorted r (P .fine-right) sr),
-          fine-length o (P .fine-archive),
-          fine-length l (P .fine-left),
-          fine-length r (P .fine-right),
-          fine-most o (P .fine-archive),
-          fine-most l (P .fine-left),
-          fine-most r (P .fine-right),
+          lines-bound (fold p (treeOf o)) (fold p (treeOf l)) (fold p (treeOf r)) (sorted o (P .archive-passes) so) (sorted l (P .left-passes) sl) (sorted r (P .right-passes) sr),
+          size-fold p (treeOf o),
+          size-fold p (treeOf l),
+          size-fold p (treeOf r),
+          passed-most p o (P .archive-passes),
+          passed-most p l (P .left-passes),
+          passed-most p r (P .right-passes),
         )
 
-    pub run-narrow : Narrow (runOf o l r b .answer)
+    pub run-narrow : Narrow (runOf p o l r b .answer)
     unfolding runOf
-    run-narrow = go (runDue o l r b) rooms-place (passed o l r b)
+    run-narrow = go (runDue p o l r b) run-place (passed p o l r b)
       where
-        go : (a : Answer) → placeOf a ≤ 4096 → (isAccepted a ≡ true → Passed o l r b) → Narrow (answerWith a (countsOf (given o l r)))
-        go (Accepted p) h k =
+        go : (a : Answer) → placeOf a ≤ 4096 → (isAccepted a ≡ true → Passed p o l r b) → Narrow (answerWith a (countsOf (given p o l r)))
+        go (Accepted q) h k =
             let P = k refl in
             let e = entries P in
             record {
@@ -72,4 +86,4 @@ module _ (o l r : List ℕ) (b : Lent) where
               right = omega (arith, P .room .right .0);
               list = omega arith;
             }
-        go (Refused n s p) h k = record { place = omega arith; archive = omega arith; left = omega arith; right = omega arith; list = omega arith }
+        go (Refused n s q) h k = record { place = omega arith; archive = omega arith; left = omega arith; right = omega arith; list = omega arith }

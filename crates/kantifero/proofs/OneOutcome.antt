@@ -3,13 +3,14 @@ use mathlib.Core.Path.{_≡_, sym, _∙_}
 use mathlib.Core.List.{List}
 use Prim.Native.Nat.{ℕ}
 use Rattle.tree.specs.Name.{Name}
+use Rattle.tree.specs.declared.Profile.{Profile}
 use Rattle.reconcile.specs.Run.{Lent}
 use Rattle.kantifero.specs.Calls.{ReconcileCall, MoveCall, WriteCall, ReadCall}
 use Rattle.kantifero.specs.Carried.{CarriedCall}
 
-pub reconcile-one : (o l r : List ℕ) (before : Lent) (a b c d t w a′ b′ c′ d′ t′ w′ : List ℕ) → ReconcileCall o l r before a b c d t w → ReconcileCall o l r before a′ b′ c′ d′ t′ w′
+pub reconcile-one : (p : Profile) (o l r : List ℕ) (before : Lent) (a b c d t w a′ b′ c′ d′ t′ w′ : List ℕ) → ReconcileCall p o l r before a b c d t w → ReconcileCall p o l r before a′ b′ c′ d′ t′ w′
     → (a ≡ a′) × (b ≡ b′) × (c ≡ c′) × (d ≡ d′) × (t ≡ t′) × (w ≡ w′)
-reconcile-one o l r before a b c d t w a′ b′ c′ d′ t′ w′ C D = (
+reconcile-one p o l r before a b c d t w a′ b′ c′ d′ t′ w′ C D = (
   C .archive-left ∙ sym (D .archive-left),
   C .left-left ∙ sym (D .left-left),
   C .right-left ∙ sym (D .right-left),
@@ -18,16 +19,16 @@ reconcile-one o l r before a b c d t w a′ b′ c′ d′ t′ w′ C D = (
   C .answered ∙ sym (D .answered),
 )
 
-pub move-one : (target source : List ℕ) (names : List Name) (depth : ℕ) (lent r w r′ w′ : List ℕ) → MoveCall target source names depth lent r w
-    → MoveCall target source names depth lent r′ w′ → (r ≡ r′) × (w ≡ w′)
-move-one target source names depth lent r w r′ w′ C D = (C .room ∙ sym (D .room), C .answered ∙ sym (D .answered))
+pub move-one : (p : Profile) (target source : List ℕ) (names : List Name) (depth : ℕ) (lent r w r′ w′ : List ℕ) → MoveCall p target source names depth lent r w
+    → MoveCall p target source names depth lent r′ w′ → (r ≡ r′) × (w ≡ w′)
+move-one p target source names depth lent r w r′ w′ C D = (C .room ∙ sym (D .room), C .answered ∙ sym (D .answered))
 
-pub write-one : (t d s w s′ w′ : List ℕ) → WriteCall t d s w → WriteCall t d s′ w′ → (s ≡ s′) × (w ≡ w′)
-write-one t d s w s′ w′ C D = (C .written ∙ sym (D .written), C .answered ∙ sym (D .answered))
+pub write-one : (p : Profile) (t d s w s′ w′ : List ℕ) → WriteCall p t d s w → WriteCall p t d s′ w′ → (s ≡ s′) × (w ≡ w′)
+write-one p t d s w s′ w′ C D = (C .written ∙ sym (D .written), C .answered ∙ sym (D .answered))
 
-pub carried-one : (left right : List ℕ) (kind leftRow rightRow : ℕ) (w w′ : List ℕ) → CarriedCall left right kind leftRow rightRow w
-    → CarriedCall left right kind leftRow rightRow w′ → w ≡ w′
-carried-one left right kind leftRow rightRow w w′ C D = C .answered ∙ sym (D .answered)
+pub carried-one : (p : Profile) (left right : List ℕ) (kind leftRow rightRow : ℕ) (w w′ : List ℕ) → CarriedCall p left right kind leftRow rightRow w
+    → CarriedCall p left right kind leftRow rightRow w′ → w ≡ w′
+carried-one p left right kind leftRow rightRow w w′ C D = C .answered ∙ sym (D .answered)
 
-pub read-one : (t b s w s′ w′ : List ℕ) → ReadCall t b s w → ReadCall t b s′ w′ → (s ≡ s′) × (w ≡ w′)
-read-one t b s w s′ w′ C D = (C .table ∙ sym (D .table), C .answered ∙ sym (D .answered))
+pub read-one : (p : Profile) (t b s w s′ w′ : List ℕ) → ReadCall p t b s w → ReadCall p t b s′ w′ → (s ≡ s′) × (w ≡ w′)
+read-one p t b s w s′ w′ C D = (C .table ∙ sym (D .table), C .answered ∙ sym (D .answered))

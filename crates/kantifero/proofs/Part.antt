@@ -7,12 +7,12 @@ use lib.Dec.{eqb}
 use lib.ListN.{length, take, drop, getD, length-take, length-drop}
 use Prim.Native.Nat.{ℕ, zero, suc, _*_, _-_, _≤_}
 use borrow.Author.Tests.{eqb-true, eqb-false}
-use Rattle.rules.specs.declared.Checked.the-variants.{Fine}
-use Rattle.rules.specs.Rules.{checked}
-use Rattle.rules.proofs.Fine.{fine-most}
+use Rattle.tree.specs.declared.Profile.{Profile}
+use Rattle.rules.specs.Keyed.{Passes}
+use Rattle.rules.proofs.Keyed.{passed-words}
 use Rattle.find.specs.Subtree.{subtree, endOf}
-use Rattle.carry.specs.Carried.{isFine, carriedRows}
-use Rattle.carry.proofs.Checks.{both-fine}
+use Rattle.carry.specs.Carried.{passes, carriedRows}
+use Rattle.carry.proofs.Checks.{both-pass}
 use Rattle.kantifero.specs.Carried.{partWords, Within, tableOn}
 
 take-own : (k : ℕ) (w : List ℕ) → take (length (take k w)) w ≡ take k w
@@ -28,24 +28,24 @@ none (x ∷ w) e = absurd (omega arith)
 subtree-most : (w : List ℕ) (i : ℕ) → length (subtree w i) ≤ length w - 20 * i
 subtree-most w i = simp (length-take, length-drop) (omega arith)
 
-module _ (left right : List ℕ) (kind leftRow rightRow : ℕ) where
+module _ (p : Profile) (left right : List ℕ) (kind leftRow rightRow : ℕ) where
   abbrev rows : Bool → Bool → Bool → List ℕ
   rows b x y = cond b (cond x (subtree right rightRow) (cond y (subtree left leftRow) [])) []
 
-  pub carried-within : Within kind leftRow rightRow (length (carriedRows left right kind leftRow rightRow))
+  pub carried-within : Within kind leftRow rightRow (length (carriedRows p left right kind leftRow rightRow))
   unfolding carriedRows
-  carried-within = go (isFine (checked left) && isFine (checked right)) (both-fine left right) (eqb kind 1) refl (eqb kind 2)
+  carried-within = go (passes p left && passes p right) (both-pass p left right) (eqb kind 1) refl (eqb kind 2)
     where
-      go : (b : Bool) → (b ≡ true → (checked left ≡ Fine) × (checked right ≡ Fine)) → (x : Bool) → eqb kind 1 ≡ x → (y : Bool)
+      go : (b : Bool) → (b ≡ true → Passes p left × Passes p right) → (x : Bool) → eqb kind 1 ≡ x → (y : Bool)
           → Within kind leftRow rightRow (length (rows b x y))
       go true f true e y =
-          let n = subtree-most right rightRow in let m = fine-most right (f refl .1) in
-          record { words = omega arith; right = λ p k. omega arith; left = λ p k. absurd (k (eqb-true kind 1 e)) }
+          let n = subtree-most right rightRow in let m = passed-words p right (f refl .1) in
+          record { words = omega arith; right = λ h k. omega arith; left = λ h k. absurd (k (eqb-true kind 1 e)) }
       go true f false e true =
-          let n = subtree-most left leftRow in let m = fine-most left (f refl .0) in
-          record { words = omega arith; right = λ p k. absurd (eqb-false kind 1 e k); left = λ p k. omega arith }
-      go true f false e false = record { words = omega arith; right = λ p k. absurd (omega arith); left = λ p k. absurd (omega arith) }
-      go false f x e y = record { words = omega arith; right = λ p k. absurd (omega arith); left = λ p k. absurd (omega arith) }
+          let n = subtree-most left leftRow in let m = passed-words p left (f refl .0) in
+          record { words = omega arith; right = λ h k. absurd (eqb-false kind 1 e k); left = λ h k. omega arith }
+      go true f false e false = record { words = omega arith; right = λ h k. absurd (omega arith); left = λ h k. absurd (omega arith) }
+      go false f x e y = record { words = omega arith; right = λ h k. absurd (omega arith); left = λ h k. absurd (omega arith) }
 
   -- what eight words tell of
   abbrev told : List ℕ → List ℕ
@@ -59,9 +59,9 @@ module _ (left right : List ℕ) (kind leftRow rightRow : ℕ) where
   part-some w false q true e h = rw (q, e) h
   part-some w false q false e h = rw (q, e) h
 
-  pub carried-part : told (partWords kind leftRow rightRow (length (carriedRows left right kind leftRow rightRow))) ≡ carriedRows left right kind leftRow rightRow
+  pub carried-part : told (partWords kind leftRow rightRow (length (carriedRows p left right kind leftRow rightRow))) ≡ carriedRows p left right kind leftRow rightRow
   unfolding carriedRows
-  carried-part = go (isFine (checked left) && isFine (checked right)) (eqb kind 1) refl (eqb kind 2)
+  carried-part = go (passes p left && passes p right) (eqb kind 1) refl (eqb kind 2)
     where
       go : (b x : Bool) → eqb kind 1 ≡ x → (y : Bool) → told (partWords kind leftRow rightRow (length (rows b x y))) ≡ rows b x y
       go true true e y = part-some (subtree right rightRow) (eqb (length (subtree right rightRow)) 0) refl true e (take-own (20 * endOf right rightRow - 20 * rightRow) (drop (20 * rightRow) right))

@@ -7,6 +7,7 @@ use lib.Dec.{eqb, leb}
 use lib.ListN.{length, take}
 use Prim.Native.Nat.{ℕ, zero, suc, _+_, _≤_}
 use borrow.Author.Tests.{leb-true}
+use Rattle.tree.specs.declared.Profile.{Profile}
 use Rattle.tree.proofs.Same.{and-true}
 use Rattle.listing.specs.declared.Mode.the-variants.{Lead}
 use Rattle.listing.specs.Bytes.{classOf}
@@ -28,33 +29,33 @@ next-most n b = go (eqb b 10)
     go false = omega arith
 
 -- no line has a higher number than there are bytes before it
-run-line : (most n k : ℕ) (bs : List ℕ) (s : State) → lineOf (run most (linesFrom n k bs) s) ≤ n + length bs
+run-line : (p : Profile) (most n k : ℕ) (bs : List ℕ) (s : State) → lineOf (run p most (linesFrom n k bs) s) ≤ n + length bs
 unfolding lineOf run linesFrom
-run-line most n k [] (before d) = omega arith
-run-line most n k [] (inside f p ds) = omega arith
-run-line most n k [] (closed f) = omega arith
-run-line most n (suc k) (b ∷ bs) s = omega (arith, run-line most (next n b) k bs s, next-most n b)
-run-line most n zero (b ∷ bs) s =
+run-line p most n k [] (before d) = omega arith
+run-line p most n k [] (inside f q ds) = omega arith
+run-line p most n k [] (closed f) = omega arith
+run-line p most n (suc k) (b ∷ bs) s = omega (arith, run-line p most (next n b) k bs s, next-most n b)
+run-line p most n zero (b ∷ bs) s =
     let k = lenIn (stepOf Lead (classOf b)) bs in
-    go k (lineDoes most (b ∷ take k bs) s) (λ t. run-line most (next n b) k bs t)
+    go k (lineDoes p most (b ∷ take k bs) s) (λ t. run-line p most (next n b) k bs t)
   where
-    go : (k : ℕ) (x : Step) → ((t : State) → lineOf (run most (linesFrom (next n b) k bs) t) ≤ next n b + length bs)
-        → lineOf (onStep x n (λ t. run most (linesFrom (next n b) k bs) t)) ≤ n + suc (length bs)
+    go : (k : ℕ) (x : Step) → ((t : State) → lineOf (run p most (linesFrom (next n b) k bs) t) ≤ next n b + length bs)
+        → lineOf (onStep x n (λ t. run p most (linesFrom (next n b) k bs) t)) ≤ n + suc (length bs)
     go k (stops m) h = omega arith
     go k (goes t) h = omega (arith, h t, next-most n b)
 
-read-line : (t : List ℕ) (room : ℕ) → lineOf (reading t room) ≤ 65537
+read-line : (p : Profile) (t : List ℕ) (room : ℕ) → lineOf (reading p t room) ≤ 65537
 unfolding reading lineOf
-read-line t room = go (hasForm t) refl
+read-line p t room = go (hasForm t) refl
   where
-    go : (b : Bool) → hasForm t ≡ b → lineOf (cond b (run (mostRows room) (lines t) (before none)) (refused 6 0)) ≤ 65537
-    go true e = omega (arith, leb-true (length t) 65536 (and-true (leb (length t) 65536) (endsInLF t) e .0), run-line (mostRows room) 1 0 t (before none))
+    go : (b : Bool) → hasForm t ≡ b → lineOf (cond b (run p (mostRows room) (lines t) (before none)) (refused 6 0)) ≤ 65537
+    go true e = omega (arith, leb-true (length t) 65536 (and-true (leb (length t) 65536) (endsInLF t) e .0), run-line p (mostRows room) 1 0 t (before none))
     go false e = omega arith
 
-pub read-place : (t : List ℕ) (room : ℕ) → answerOf (reading t room) .place ≤ 65537
+pub read-place : (p : Profile) (t : List ℕ) (room : ℕ) → answerOf (reading p t room) .place ≤ 65537
 unfolding lineOf
-read-place t room = go (reading t room) refl (read-line t room)
+read-place p t room = go (reading p t room) refl (read-line p t room)
   where
-    go : (o : Outcome) → reading t room ≡ o → lineOf o ≤ 65537 → answerOf o .place ≤ 65537
+    go : (o : Outcome) → reading p t room ≡ o → lineOf o ≤ 65537 → answerOf o .place ≤ 65537
     go (refused n line) e h = h
-    go (accepted f) e h = omega (arith, accepted-fits t room f e .room)
+    go (accepted f) e h = omega (arith, accepted-fits p t room f e .room)

@@ -4,12 +4,9 @@ use mathlib.Core.List.{List, [], _∷_}
 use native.Mathlib.Omega.{arith}
 use lib.ListN.{length}
 use Prim.Native.Nat.{ℕ}
+use Rattle.tree.specs.declared.Profile.{Profile}
 use Rattle.rules.specs.declared.Answer.{Answer}
 use Rattle.rules.specs.Answer.{Says}
-use Rattle.rules.specs.Contract.{CheckContract}
-use Rattle.rules.specs.Refusal.{refusalOf}
-use Rattle.rules.specs.Rules.{checked}
-use Rattle.rules.proofs.Says.{says-one, says-refusal}
 use Rattle.tally.specs.declared.Tally.{Tally}
 use Rattle.reconcile.specs.declared.Reconciled.{Reconciled}
 use Rattle.reconcile.specs.Run.{Lent, lent, ReconcileContract}
@@ -19,13 +16,10 @@ use Rattle.kantifero.specs.Calls.{ReconcileCall}
 pub says-words : (a : Answer) (number side place : ℕ) → Says a number side place → answerWords a ≡ eight number side place
 says-words a number side place s = rw (s .number-due, s .side-due, s .place-due)
 
-pub check-says : (t : List ℕ) (a : Answer) → CheckContract t a → a ≡ refusalOf (checked t) 1
-check-says t a C = says-one a (refusalOf (checked t) 1) (C .says) (says-refusal (checked t) 1)
-
-pub reconcile-call : (o l r : List ℕ) (before : Lent) (archive left right list : List ℕ) (t : Tally) (a : Reconciled) (answer : List ℕ)
-    → ReconcileContract o l r before (lent archive left right list t) a → answer ≡ reconciledWords a
-    → ReconcileCall o l r before archive left right list (tallyWords t) answer
-reconcile-call o l r before archive left right list t a answer C e = record {
+pub reconcile-call : (p : Profile) (o l r : List ℕ) (before : Lent) (archive left right list : List ℕ) (t : Tally) (a : Reconciled) (answer : List ℕ)
+    → ReconcileContract p o l r before (lent archive left right list t) a → answer ≡ reconciledWords a
+    → ReconcileCall p o l r before archive left right list (tallyWords t) answer
+reconcile-call p o l r before archive left right list t a answer C e = record {
   answered = e ∙ ap reconciledWords (C .answered);
   archive-left = ap (λ (x : Lent). x .archive) (C .left-in);
   left-left = ap (λ (x : Lent). x .left) (C .left-in);

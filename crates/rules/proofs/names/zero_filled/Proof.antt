@@ -7,8 +7,8 @@ use borrow.Author.Needs.{needs}
 use Rattle.tree.specs.Rules.{zeroFilled, bytes}
 use Rattle.tree.proofs.Rules.{length-bytes}
 use Rattle.rules.proofs.Words.{byte-is, zeros-next, filled-zero, filled-slash, filled-next, filled-end}
-use Rattle.rules.proofs.zero_filled.Statement.{statement}
-use Rattle.rules.proofs.zero_filled.Tie as tie
+use Rattle.rules.proofs.names.zero_filled.Statement.{statement}
+use Rattle.rules.proofs.names.zero_filled.Tie as tie
 
 abbrev Inv-loop : tie.InvT-loop
 Inv-loop s k₀ k = (k ≤ 32) × (length (bytes s) ≡ 32) × (zeroFilled (bytes s) ≡ zeroFilled (drop k (bytes s)))

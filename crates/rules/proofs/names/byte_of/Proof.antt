@@ -2,8 +2,8 @@
 use mathlib.Core.Path.{_≡_}
 use borrow.Author.Needs.{needs}
 use Rattle.tree.specs.Rules.{bytes}
-use Rattle.rules.proofs.byte_of.Statement.{statement}
-use Rattle.rules.proofs.byte_of.Tie as tie
+use Rattle.rules.proofs.names.byte_of.Statement.{statement}
+use Rattle.rules.proofs.names.byte_of.Tie as tie
 
 returns : tie.Need-returns
 unfolding bytes

@@ -1,8 +1,8 @@
 -- `low_bytes` meets its contract, byte by byte.
 use borrow.Author.Tests.{ne-eqb}
 use Rattle.rules.specs.Low.{lowBytes}
-use Rattle.rules.proofs.low_bytes.Statement.{statement}
-use Rattle.rules.proofs.low_bytes.Tie as tie
+use Rattle.rules.proofs.names.low_bytes.Statement.{statement}
+use Rattle.rules.proofs.names.low_bytes.Tie as tie
 
 returns : tie.Need-returns
 unfolding lowBytes

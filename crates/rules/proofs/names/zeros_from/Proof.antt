@@ -7,8 +7,8 @@ use borrow.Author.Tests.{ne-eqb}
 use Rattle.rules.proofs.Words.{zeros-low}
 use native.Mathlib.Omega.{arith}
 use borrow.Author.Needs.{needs}
-use Rattle.rules.proofs.zeros_from.Statement.{statement}
-use Rattle.rules.proofs.zeros_from.Tie as tie
+use Rattle.rules.proofs.names.zeros_from.Statement.{statement}
+use Rattle.rules.proofs.names.zeros_from.Tie as tie
 
 returns : tie.Need-returns
 returns c =

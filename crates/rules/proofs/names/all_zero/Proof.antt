@@ -5,8 +5,8 @@ use Prim.Native.Nat.{_-_}
 use borrow.Author.Needs.{needs}
 use Rattle.tree.specs.Rules.{zeros}
 use Rattle.rules.proofs.Words.{zeros-next, zeros-not, zeros-end}
-use Rattle.rules.proofs.all_zero.Statement.{statement}
-use Rattle.rules.proofs.all_zero.Tie as tie
+use Rattle.rules.proofs.names.all_zero.Statement.{statement}
+use Rattle.rules.proofs.names.all_zero.Tie as tie
 
 abbrev Inv-loop : tie.InvT-loop
 Inv-loop s k₀ k = zeros s ≡ zeros (drop k s)

@@ -2,8 +2,8 @@
 use borrow.Author.Tests.{eq-eqb, ne-eqb}
 use borrow.Author.Needs.{needs}
 use Rattle.tree.specs.Rules.{goodName}
-use Rattle.rules.proofs.good_name.Statement.{statement}
-use Rattle.rules.proofs.good_name.Tie as tie
+use Rattle.rules.proofs.names.good_name.Statement.{statement}
+use Rattle.rules.proofs.names.good_name.Tie as tie
 
 returns : tie.Need-returns
 unfolding goodName
