@@ -11,7 +11,7 @@ use Rattle.tree.specs.Forest.{Content, Forest, Forest.end, Forest.leaf, Forest.
 use Rattle.tree.specs.Put.{update, Reaches}
 use Rattle.tree.specs.Rules.{NameRule, ContentRule, Within}
 use Rattle.tree.specs.declared.Profile.{Profile}
-use Rattle.tree.specs.Key.{fold, foldPath, FormedIn, putIn}
+use Rattle.tree.specs.Key.{key, fold, foldPath, FormedIn, putIn}
 use Rattle.row.specs.Table.{Row, flat}
 use Rattle.row.specs.Tree.{fileRow, folderRow, nodeRows, rowsOf, rootName, table}
 use Rattle.row.specs.Buffer.{written}
@@ -20,7 +20,7 @@ use Rattle.stands.specs.Around.{before, rowIn, nameOn}
 use Rattle.tree.proofs.Forest.{sorted-at}
 use Rattle.tree.proofs.Order.{cmp-refl}
 use Rattle.tree.proofs.Put.{find-update-same}
-use Rattle.tree.proofs.Spots.{putIn-folder}
+use Rattle.tree.proofs.Spots.{path-append, putIn-folder}
 use Rattle.row.proofs.Table.{drop-take}
 use Rattle.row.proofs.Flat.{Whole, flat-append, length-flat}
 use Rattle.row.proofs.Tree.{whole-rowsOf}
@@ -87,22 +87,23 @@ whole-tree f h = (refl, whole-rowsOf 16 1 f h)
 
 -- THE TABLE OF A TREE WITH AN ENTRY MORE, called m in the folder at the path q: its row at the place of its key
 module _ (p : Profile) (q : TreePath) (m : Name) (f : Forest) (y : Node) (w : List ℕ) (n : ℕ) (r : Row) where
-  abbrev path : TreePath
-  path = q ++ (m ∷ [])
+  abbrev keys : TreePath
+  keys = foldPath p q ++ (key p m ∷ [])
 
   abbrev row : ℕ
-  row = rowIn (folder (fold p f)) (foldPath p path)
+  row = rowIn (folder (fold p f)) keys
 
-  pub put-row : FormedIn p f → take n w ≡ table f → Reaches (foldPath p path) (folder (fold p f)) → at (folder (fold p f)) (foldPath p path) ≡ absent
+  pub put-row : FormedIn p f → take n w ≡ table f → Reaches keys (folder (fold p f)) → at (folder (fold p f)) keys ≡ absent
       → flat (nodeRows (suc (length q)) m y) ≡ r → length r ≡ 20 → 20 * row ≤ n → n + 20 ≤ length w
-      → take (n + 20) (inserted w n (20 * row) r) ≡ table (kids (putIn p path y (folder f)))
+      → take (n + 20) (inserted w n (20 * row) r) ≡ table (kids (putIn p (q ++ (m ∷ [])) y (folder f)))
   unfolding table
   put-row good used there none is long low room =
-      let h = parted p q m y 0 rootName (folder f) (good .sorted) there none in
+      let k = path-append p q (m ∷ []) in
+      let h = parted p q m y 0 rootName (folder f) (good .sorted) (rw k there) (rw k none) in
       let a = h .front in
       let c = h .back in
       let v : Whole (a ++ c) = rw (h .are) at (whole-tree f (good .within)) in
-      let i : length (flat a) ≡ 20 * row = length-flat a (whole-front a c v) ∙ rw (h .place) in
+      let i : length (flat a) ≡ 20 * row = length-flat a (whole-front a c v) ∙ rw (h .place, k) in
       let z = cut (take n w) (flat a) [] (flat c) (20 * row) (20 * row) (used ∙ ap flat (h .are) ∙ flat-append a c) i (omega arith) in
       let b = nodeRows (0 + suc (length q)) m y in
       let g : flat (a ++ (b ++ c)) ≡ flat a ++ (r ++ flat c) = rw (flat-append a (b ++ c), flat-append b c, zero-add (suc (length q)), is) in
