@@ -66,11 +66,17 @@ struct lent {
 
 static struct lent lent;
 
-static void reconcile(const uint32_t *o, size_t ow, const uint32_t *l, size_t lw, const uint32_t *r, size_t rw, size_t list_words)
+static void reconcile_in(uint32_t profile, const uint32_t *o, size_t ow, const uint32_t *l, size_t lw, const uint32_t *r, size_t rw,
+                         size_t list_words)
 {
     paint((uint32_t *)&lent, sizeof lent / sizeof(uint32_t));
-    kantifero_reconcile(o, ow, l, lw, r, rw, lent.archive, ROOM * ROW, lent.left, ROOM * ROW, lent.right, ROOM * ROW, lent.list,
-                        list_words, lent.tally, lent.answer);
+    kantifero_reconcile(profile, o, ow, l, lw, r, rw, lent.archive, ROOM * ROW, lent.left, ROOM * ROW, lent.right, ROOM * ROW,
+                        lent.list, list_words, lent.tally, lent.answer);
+}
+
+static void reconcile(const uint32_t *o, size_t ow, const uint32_t *l, size_t lw, const uint32_t *r, size_t rw, size_t list_words)
+{
+    reconcile_in(KANTIFERO_EXACT, o, ow, l, lw, r, rw, list_words);
 }
 
 static void kept(const char *what, size_t archive, size_t left, size_t right, size_t entries)
@@ -124,12 +130,12 @@ static void try_check(void)
     size_t n = tree(table, 0xF);
 
     paint(answer, 9);
-    kantifero_check(table, n, answer);
+    kantifero_check(KANTIFERO_EXACT, table, n, answer);
     answered("check", answer, 0, 0, 0);
-    kantifero_check(table, n - 1, answer);
+    kantifero_check(KANTIFERO_EXACT, table, n - 1, answer);
     answered("check of 39 words", answer, 1, 1, 0);
     table[ROW] = 2;
-    kantifero_check(table, n, answer);
+    kantifero_check(KANTIFERO_EXACT, table, n, answer);
     answered("check of a depth", answer, 2, 1, 1);
     painted("check", answer + 8, 1);
 }
@@ -142,17 +148,17 @@ static void try_move(void)
     names[0][0] = UINT32_C(0x70000000);
     paint(answer, 9);
     paint(room, 2 * ROW + 1);
-    kantifero_move(none, n, f, m, names, 1, room, 2 * ROW - 1, answer);
+    kantifero_move(KANTIFERO_EXACT, none, n, f, m, names, 1, room, 2 * ROW - 1, answer);
     answered("move with no room", answer, 3, 2, 0);
-    kantifero_move(none, n, f, m, names, 0, room, 2 * ROW, answer);
+    kantifero_move(KANTIFERO_EXACT, none, n, f, m, names, 0, room, 2 * ROW, answer);
     answered("move at no path", answer, 5, 0, 0);
     painted("moves refused", room, 2 * ROW + 1);
-    kantifero_move(none, n, f, m, names, 1, room, 2 * ROW, answer);
+    kantifero_move(KANTIFERO_EXACT, none, n, f, m, names, 1, room, 2 * ROW, answer);
     answered("move", answer, 0, 0, 2);
     same("move", room, f, m);
     painted("move", room + m, 1);
     names[1][0] = UINT32_C(0x70000000);
-    kantifero_move(none, n, f, m, names, 2, room, 2 * ROW, answer);
+    kantifero_move(KANTIFERO_EXACT, none, n, f, m, names, 2, room, 2 * ROW, answer);
     answered("move with no parent", answer, 4, 0, 0);
     painted("moves", answer + 8, 1);
 }
@@ -163,13 +169,13 @@ static void try_carried(void)
     size_t n = tree(none, 0), m = tree(f, 0xF);
 
     paint(answer, 9);
-    kantifero_carried(f, m, none, n, 2, 1, KANTIFERO_NO_ROW, answer);
+    kantifero_carried(KANTIFERO_EXACT, f, m, none, n, 2, 1, KANTIFERO_NO_ROW, answer);
     answered("carried from left", answer, 2, ROW, ROW);
-    kantifero_carried(none, n, f, m, 1, KANTIFERO_NO_ROW, 1, answer);
+    kantifero_carried(KANTIFERO_EXACT, none, n, f, m, 1, KANTIFERO_NO_ROW, 1, answer);
     answered("carried from right", answer, 3, ROW, ROW);
-    kantifero_carried(f, m, f, m, 3, 1, 1, answer);
+    kantifero_carried(KANTIFERO_EXACT, f, m, f, m, 3, 1, 1, answer);
     answered("carried by a clash", answer, 0, 0, 0);
-    kantifero_carried(f, m, none, n - 1, 2, 1, KANTIFERO_NO_ROW, answer);
+    kantifero_carried(KANTIFERO_EXACT, f, m, none, n - 1, 2, 1, KANTIFERO_NO_ROW, answer);
     answered("carried from a bad table", answer, 0, 0, 0);
     painted("carried", answer + 8, 1);
 }
@@ -186,11 +192,11 @@ static void try_write(void)
     paint(answer, 9);
     memset(text, 0xC7, sizeof text);
     memset(fresh, 0xC7, sizeof fresh);
-    kantifero_write(f, m, text, bytes - 1, answer);
+    kantifero_write(KANTIFERO_EXACT, f, m, text, bytes - 1, answer);
     answered("write with no room", answer, 3, 1, 0);
     if (memcmp(text, fresh, sizeof text) != 0)
         failures++, fprintf(stderr, "write with no room: the text is not as it was\n");
-    kantifero_write(f, m, text, bytes, answer);
+    kantifero_write(KANTIFERO_EXACT, f, m, text, bytes, answer);
     answered("write", answer, 0, 0, (uint32_t)bytes);
     if (memcmp(text, listing, bytes) != 0 || text[bytes] != 0xC7)
         failures++, fprintf(stderr, "write: another text\n");
@@ -204,19 +210,38 @@ static void try_read(void)
 
     paint(answer, 9);
     paint(table, 3 * ROW + 1);
-    kantifero_read((const uint8_t *)listing, bytes - 1, table, 3 * ROW, answer);
+    kantifero_read(KANTIFERO_EXACT, (const uint8_t *)listing, bytes - 1, table, 3 * ROW, answer);
     answered("read with no LF", answer, 6, 0, 0);
     same("read with no LF", table, zeros, 3 * ROW);
-    kantifero_read((const uint8_t *)listing, bytes, table, ROW, answer);
+    kantifero_read(KANTIFERO_EXACT, (const uint8_t *)listing, bytes, table, ROW, answer);
     answered("read with no room", answer, 3, 0, 3);
     same("read with no room", table, zeros, ROW);
     paint(table, 3 * ROW);
-    kantifero_read((const uint8_t *)listing, bytes, table, 3 * ROW, answer);
+    kantifero_read(KANTIFERO_EXACT, (const uint8_t *)listing, bytes, table, 3 * ROW, answer);
     answered("read", answer, 0, 0, 2);
     same("read", table, f, m);
     same("read past the rows", table + m, zeros, 3 * ROW - m);
     painted("read", table + 3 * ROW, 1);
     painted("read", answer + 8, 1);
+}
+
+/* Left's p and right's P are one file, and two where every byte counts; any word but 0 is the folded profile. */
+static void try_folded(void)
+{
+    uint32_t f[2 * ROW], g[2 * ROW], none[2 * ROW];
+    size_t n = tree(none, 0), m = tree(f, 0xF), k = tree(g, 0xF);
+
+    g[ROW + 2] = UINT32_C(0x50000000);
+    for (uint32_t profile = KANTIFERO_FOLDED; profile != 0; profile *= 2) {
+        reconcile_in(profile, none, n, f, m, g, k, 6);
+        same("folded", lent.answer, (const uint32_t[8]){0, 0, 0, 2, 2, 2, 0, 0}, 8);
+        same("folded archive", lent.archive, f, m);
+        same("folded left", lent.left, f, m);
+        same("folded right", lent.right, g, k);
+        kept("folded", m, m, k, 0);
+    }
+    reconcile(none, n, f, m, g, k, 6);
+    same("not folded", lent.answer, (const uint32_t[8]){0, 0, 0, 3, 3, 3, 2, 0}, 8);
 }
 
 int main(void)
@@ -227,6 +252,7 @@ int main(void)
     try_carried();
     try_write();
     try_read();
+    try_folded();
     if (failures != 0)
         fprintf(stderr, "%d failed\n", failures);
     return failures != 0;

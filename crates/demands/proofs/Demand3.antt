@@ -1,12 +1,15 @@
--- DEMAND 3 over calls: for all words, all rooms, any choice of the listed moves in any order, each accepted.
+-- DEMAND 3 over calls: for all words, all rooms, any choice of the listed moves in any order, each accepted, in either profile.
 use mathlib.Core.Path.{_≡_, ap, ap₂, _∙_}
-use mathlib.Core.List.{List, [], _∷_}
+use mathlib.Core.List.{List, [], _∷_, map}
 use mathlib.Core.Bool.{Bool, true, false}
 use native.Mathlib.Omega.{arith}
 use lib.ListN.{length}
 use Prim.Native.Nat.{ℕ, suc, _≤_}
 use Rattle.tree.specs.Forest.{Forest}
 use Rattle.tree.specs.Rules.{Words32}
+use Rattle.tree.specs.declared.Profile.{Profile}
+use Rattle.tree.specs.Key.{fold}
+use Rattle.settle.specs.Spelled.{foldOutcome, foldLine}
 use Rattle.settle.specs.Results.{Line, Line.line, Lines, Outcome}
 use Rattle.settle.specs.Resume.{Sides, keepIf, keep, elsewhere, minus, isClash, withLines}
 use Rattle.row.specs.Buffer.{over}
@@ -14,13 +17,11 @@ use Rattle.row.specs.Tree.{table, treeOf}
 use Rattle.rules.specs.Answer.{isAccepted}
 use Rattle.plan.specs.Items.{listWords}
 use Rattle.reconcile.specs.Run.{given, Lent, runDue, runOf}
-use Rattle.settle.proofs.Resume.{resumes}
-use Rattle.settle.proofs.Finish.{finishes}
-use Rattle.settle.proofs.Close.{closes}
-use Rattle.settle.proofs.Rules.{well-formed-left, well-formed-right, well-formed-archive}
+use Rattle.tree.proofs.Folds.{size-fold}
+use Rattle.settle.proofs.Spelled.{resumesIn, finishesIn, closesIn, formed-left, formed-right, formed-archive}
 use Rattle.reconcile.proofs.Accepted.{Room, Passed, passed, accepted}
-use Rattle.demands.specs.Demand3.{AsMuch, Reruns, Finishing, Closing}
-use Rattle.demands.proofs.Tab.{Tab, tab-tree, tab-fine, fine-tab, formed-tab}
+use Rattle.demands.specs.Demand3.{others, AsMuch, Reruns, Finishing, Closing}
+use Rattle.demands.proofs.Tab.{Tab, tab-tree, tab-passes, passes-tab, formed-tab}
 use Rattle.demands.proofs.Made.{carried-all}
 
 -- a list with some lines left out is no longer
@@ -47,78 +48,100 @@ as-much u xs b c h M R = record {
   list = let a = R .list in let m = M .list in omega arith;
 }
 
-module _ (o l r : List ℕ) (b : Lent) (wo : Words32 o) (wl : Words32 l) (wr : Words32 r) (h : isAccepted (runDue o l r b) ≡ true) where
-  P : Passed o l r b
-  P = passed o l r b h
+-- trees have as many entries after folding
+fold-room : (p : Profile) (u : Outcome) (b : Lent) → Room u b → Room (foldOutcome p u) b
+fold-room p u b R = record {
+  archive = rw (size-fold p (u .archive)) (R .archive);
+  left = rw (size-fold p (u .left)) (R .left);
+  right = rw (size-fold p (u .right)) (R .right);
+  list = R .list;
+}
 
-  to : Tab o (treeOf o)
-  to = fine-tab o wo (P .fine-archive)
+unfold-room : (p : Profile) (u : Outcome) (b : Lent) → Room (foldOutcome p u) b → Room u b
+unfold-room p u b R = record {
+  archive = rw (size-fold p (u .archive)) at (R .archive);
+  left = rw (size-fold p (u .left)) at (R .left);
+  right = rw (size-fold p (u .right)) at (R .right);
+  list = R .list;
+}
 
-  tl : Tab l (treeOf l)
-  tl = fine-tab l wl (P .fine-left)
+-- a run whose outcome is another's after folding, but for the lines xs, has room where there is as much
+again : (p : Profile) (u v : Outcome) (xs : Lines) (b c : Lent) → foldOutcome p v ≡ withLines xs (foldOutcome p u) → length xs ≤ length (u .lines) → AsMuch b c → Room u b → Room v c
+again p u v xs b c e h M R = unfold-room p v c (rw e (as-much (foldOutcome p u) xs b c h M (fold-room p u b R)))
 
-  tr : Tab r (treeOf r)
-  tr = fine-tab r wr (P .fine-right)
+module _ (p : Profile) (o l r : List ℕ) (b : Lent) (wo : Words32 o) (wl : Words32 l) (wr : Words32 r) (h : isAccepted (runDue p o l r b) ≡ true) where
+  P : Passed p o l r b
+  P = passed p o l r b h
 
-  pub rerun : Reruns o l r b
+  to : Tab p o (treeOf o)
+  to = passes-tab p o wo (P .archive-passes)
+
+  tl : Tab p l (treeOf l)
+  tl = passes-tab p l wl (P .left-passes)
+
+  tr : Tab p r (treeOf r)
+  tr = passes-tab p r wr (P .right-passes)
+
+  pub rerun : Reruns p o l r b
   unfolding runOf
   rerun ms t c chosen carried much =
+      let u = given p o l r in
+      let v = given p o (t .left) (t .right) in
       let s : Sides = record { left = treeOf l; right = treeOf r } in
-      let B = carried-all ms (record { left = l; right = r }) t s carried (record { left = tl; right = tr }) in
-      let same : given o (t .left) (t .right) ≡ withLines (minus ms (given o l r .lines)) (given o l r) =
-      rw (tab-tree (t .left) _ (B .left), tab-tree (t .right) _ (B .right))
-      (resumes ms (treeOf o) (treeOf l) (treeOf r) (to .formed .sorted) (tl .formed .sorted) (tr .formed .sorted) chosen) in
-      let room = as-much (given o l r) (minus ms (given o l r .lines)) b c (minus-length ms (given o l r .lines)) much (P .room) in
-      let due = accepted o (t .left) (t .right) c (record {
-        fine-archive = P .fine-archive;
-        fine-left = tab-fine (t .left) _ (B .left);
-        fine-right = tab-fine (t .right) _ (B .right);
-        room = rw same room;
+      let B = carried-all p ms (record { left = l; right = r }) t s carried (record { left = tl; right = tr }) in
+      let same : foldOutcome p v ≡ withLines (others p ms o l r) (foldOutcome p u) =
+      rw (tab-tree p (t .left) _ (B .left), tab-tree p (t .right) _ (B .right))
+      (resumesIn p (treeOf o) (treeOf l) (treeOf r) (to .formed .sorted) (tl .formed .sorted) (tr .formed .sorted) ms chosen) in
+      let due = accepted p o (t .left) (t .right) c (record {
+        archive-passes = P .archive-passes;
+        left-passes = tab-passes p (t .left) _ (B .left);
+        right-passes = tab-passes p (t .right) _ (B .right);
+        room = again p u v (others p ms o l r) b c same (minus-length (map (foldLine p) ms) (u .lines)) much (P .room);
       }) in
       record {
         accepted = rw due;
-        lines = ap (λ (u : Outcome). u .lines) same;
-        list = rw due (ap (λ (u : Outcome). over (c .list) (listWords (treeOf (t .left)) (treeOf (t .right)) (u .lines))) same);
-        archive = rw due (ap (λ (u : Outcome). over (c .archive) (table (u .archive))) same);
-        left = rw due (ap (λ (u : Outcome). over (c .left) (table (u .left))) same);
-        right = rw due (ap (λ (u : Outcome). over (c .right) (table (u .right))) same);
+        lines = ap (λ (x : Outcome). x .lines) same;
+        list = rw due (ap (λ (x : Outcome). over (c .list) (listWords (fold p (treeOf (t .left))) (fold p (treeOf (t .right))) (x .lines))) same);
+        archive = record { tree = v .archive; words = rw due; same = ap (λ (x : Outcome). x .archive) same };
+        left = record { tree = v .left; words = rw due; same = ap (λ (x : Outcome). x .left) same };
+        right = record { tree = v .right; words = rw due; same = ap (λ (x : Outcome). x .right) same };
       }
 
-  pub finishing : Finishing o l r
+  pub finishing : Finishing p o l r
   finishing ms t chosen carried all =
       let s : Sides = record { left = treeOf l; right = treeOf r } in
-      let B = carried-all ms (record { left = l; right = r }) t s carried (record { left = tl; right = tr }) in
-      let e = finishes ms (treeOf o) (treeOf l) (treeOf r) (to .formed .sorted) (tl .formed .sorted) (tr .formed .sorted) chosen all in
+      let B = carried-all p ms (record { left = l; right = r }) t s carried (record { left = tl; right = tr }) in
+      let e = finishesIn p (treeOf o) (treeOf l) (treeOf r) (to .formed .sorted) (tl .formed .sorted) (tr .formed .sorted) ms chosen all in
       record {
-        left = B .left .is ∙ ap (λ (x : Sides). table (x .left)) e;
-        right = B .right .is ∙ ap (λ (x : Sides). table (x .right)) e;
+        left = record { tree = _; words = B .left .is; same = ap (λ (x : Sides). x .left) e };
+        right = record { tree = _; words = B .right .is; same = ap (λ (x : Sides). x .right) e };
       }
 
-  pub closing : (c : Lent) → AsMuch b c → Closing o l r c
+  pub closing : (c : Lent) → AsMuch b c → Closing p o l r c
   unfolding runOf
   closing c much =
-      let u = given o l r in
-      let ta = formed-tab (u .archive) (well-formed-archive (treeOf o) (treeOf l) (treeOf r) (to .formed) (tl .formed) (tr .formed)) (P .room .archive .0) in
-      let tb = formed-tab (u .left) (well-formed-left (treeOf o) (treeOf l) (treeOf r) (to .formed) (tl .formed) (tr .formed)) (P .room .left .0) in
-      let tc = formed-tab (u .right) (well-formed-right (treeOf o) (treeOf l) (treeOf r) (to .formed) (tl .formed) (tr .formed)) (P .room .right .0) in
-      let same : given (table (u .archive)) (table (u .left)) (table (u .right)) ≡ withLines (keep isClash (u .lines)) u =
-      rw (tab-tree (table (u .archive)) (u .archive) ta, tab-tree (table (u .left)) (u .left) tb, tab-tree (table (u .right)) (u .right) tc)
-      (closes (treeOf o) (treeOf l) (treeOf r) (to .formed .sorted) (tl .formed .sorted) (tr .formed .sorted)) in
-      let room = as-much u (keep isClash (u .lines)) b c (keep-length isClash (u .lines)) much (P .room) in
-      let due = accepted (table (u .archive)) (table (u .left)) (table (u .right)) c (record {
-        fine-archive = tab-fine (table (u .archive)) (u .archive) ta;
-        fine-left = tab-fine (table (u .left)) (u .left) tb;
-        fine-right = tab-fine (table (u .right)) (u .right) tc;
-        room = rw same room;
+      let u = given p o l r in
+      let v = given p (table (u .archive)) (table (u .left)) (table (u .right)) in
+      let ta = formed-tab p (u .archive) (formed-archive p (treeOf o) (treeOf l) (treeOf r) (to .formed) (tl .formed) (tr .formed)) (P .room .archive .0) in
+      let tb = formed-tab p (u .left) (formed-left p (treeOf o) (treeOf l) (treeOf r) (to .formed) (tl .formed) (tr .formed)) (P .room .left .0) in
+      let tc = formed-tab p (u .right) (formed-right p (treeOf o) (treeOf l) (treeOf r) (to .formed) (tl .formed) (tr .formed)) (P .room .right .0) in
+      let same : foldOutcome p v ≡ withLines (keep isClash (u .lines)) (foldOutcome p u) =
+      rw (tab-tree p (table (u .archive)) (u .archive) ta, tab-tree p (table (u .left)) (u .left) tb, tab-tree p (table (u .right)) (u .right) tc)
+      (closesIn p (treeOf o) (treeOf l) (treeOf r) (to .formed .sorted) (tl .formed .sorted) (tr .formed .sorted)) in
+      let due = accepted p (table (u .archive)) (table (u .left)) (table (u .right)) c (record {
+        archive-passes = tab-passes p (table (u .archive)) (u .archive) ta;
+        left-passes = tab-passes p (table (u .left)) (u .left) tb;
+        right-passes = tab-passes p (table (u .right)) (u .right) tc;
+        room = again p u v (keep isClash (u .lines)) b c same (keep-length isClash (u .lines)) much (P .room);
       }) in
       record {
         accepted = rw due;
-        lines = ap (λ (v : Outcome). v .lines) same;
+        lines = ap (λ (x : Outcome). x .lines) same;
         list = rw due
-            (ap (λ (v : Outcome). over (c .list) (listWords (treeOf (table (u .left))) (treeOf (table (u .right))) (v .lines))) same
-            ∙ ap₂ (λ (x y : Forest). over (c .list) (listWords x y (keep isClash (u .lines)))) (tab-tree (table (u .left)) (u .left) tb)
-            (tab-tree (table (u .right)) (u .right) tc));
-        archive = rw due (ap (λ (v : Outcome). over (c .archive) (table (v .archive))) same);
-        left = rw due (ap (λ (v : Outcome). over (c .left) (table (v .left))) same);
-        right = rw due (ap (λ (v : Outcome). over (c .right) (table (v .right))) same);
+            (ap (λ (x : Outcome). over (c .list) (listWords (fold p (treeOf (table (u .left)))) (fold p (treeOf (table (u .right)))) (x .lines))) same
+            ∙ ap₂ (λ (x y : Forest). over (c .list) (listWords (fold p x) (fold p y) (keep isClash (u .lines)))) (tab-tree p (table (u .left)) (u .left) tb)
+            (tab-tree p (table (u .right)) (u .right) tc));
+        archive = record { tree = v .archive; words = rw due; same = ap (λ (x : Outcome). x .archive) same };
+        left = record { tree = v .left; words = rw due; same = ap (λ (x : Outcome). x .left) same };
+        right = record { tree = v .right; words = rw due; same = ap (λ (x : Outcome). x .right) same };
       }

@@ -3,3 +3,4 @@ pub mod Tab
 pub mod Made
 pub mod Demand2
 pub mod Demand3
+pub mod Exact

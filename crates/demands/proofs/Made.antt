@@ -10,21 +10,23 @@ use Prim.Native.Nat.{ℕ, suc, _*_, _/_, _≤_}
 use borrow.Author.Tests.{leb-true}
 use Rattle.tree.specs.Name.{Name}
 use Rattle.tree.specs.Forest.{TreePath, Forest, size}
+use Rattle.tree.specs.declared.Profile.{Profile}
 use Rattle.tree.specs.Rules.{NameRule, AllNames}
 use Rattle.settle.specs.Decision.{Decision.agreed, Decision.leftGets, Decision.rightGets, Decision.clash}
 use Rattle.settle.specs.Results.{Line.line, Lines}
-use Rattle.settle.specs.Resume.{Sides, moved, after}
+use Rattle.settle.specs.Resume.{Sides}
+use Rattle.settle.specs.Spelled.{movedIn, afterIn}
 use Rattle.row.specs.Buffer.{over}
 use Rattle.row.specs.Tree.{table}
 use Rattle.rules.specs.declared.Answer.the-variants.{Accepted}
-use Rattle.rules.specs.Refusal.{refusalOf}
-use Rattle.rules.specs.Rules.{checked}
+use Rattle.rules.specs.Refusal.{refusalOf, twinsDue}
+use Rattle.rules.specs.Keyed.{checkedIn, twins}
 use Rattle.moves.specs.Path.{Eights, pathOf, slots, pathRule}
 use Rattle.rules.specs.Faults.{unless, roomRule}
 use Rattle.moves.specs.Move.{parentRule, movedWords, moveDue}
 use Rattle.tree.proofs.Same.{and-true}
-use Rattle.settle.proofs.Rules.{well-formed-moved}
-use Rattle.row.proofs.Tree.{length-table}
+use Rattle.settle.proofs.Spelled.{formed-moved}
+use Rattle.reconcile.proofs.Planned.{table-rows}
 use Rattle.rules.proofs.Faults.{first-passed, first-last, unless-true, room-parts}
 use Rattle.moves.proofs.Formed.{names-ruled}
 use Rattle.demands.specs.Demand3.{Made, Tables, AllCarried}
@@ -41,22 +43,25 @@ path-ruled names depth s h =
     (names-ruled depth names s (a .1), simp length-take (omega arith))
 
 -- what an accepted call leaves
-pub made-tab : (p : TreePath) (target source result : List ℕ) (t s : Forest) → Made p target source result → Tab target t → Tab source s → Tab result (moved p s t)
+pub made-tab : (p : Profile) (q : TreePath) (target source result : List ℕ) (t s : Forest) → Made p q target source result → Tab p target t → Tab p source s
+    → Tab p result (movedIn p q s t)
 unfolding moveDue over
-made-tab p target source result t s M T S =
-    let w = movedWords target source (M .names) (M .depth) in
+made-tab p q target source result t s M T S =
+    let w = movedWords p target source (M .names) (M .depth) in
     let last = Accepted (length w / 20) in
-    let a = first-passed (refusalOf (checked target) 2) _ last (M .accepted) in
-    let b = first-passed (refusalOf (checked source) 3) _ last (a .1) in
-    let c = first-passed (unless (pathRule (M .names) (M .depth)) 5 0) _ last (b .1) in
-    let d = first-passed (unless (parentRule target (M .names) (M .depth)) 4 0) _ last (c .1) in
+    let a = first-passed (refusalOf (checkedIn p target) 2) _ last (M .accepted) in
+    let b = first-passed (refusalOf (checkedIn p source) 3) _ last (a .1) in
+    let x = first-passed (twinsDue (twins p target) 2) _ last (b .1) in
+    let y = first-passed (twinsDue (twins p source) 3) _ last (x .1) in
+    let c = first-passed (unless (pathRule (M .names) (M .depth)) 5 0) _ last (y .1) in
+    let d = first-passed (unless (parentRule p target (M .names) (M .depth)) 4 0) _ last (c .1) in
     let e = first-passed (unless (roomRule (length w / 20) (length (M .room))) 3 2) [] last (d .1) in
     let room = room-parts (length w / 20) (length (M .room)) (unless-true _ 3 2 (e .0)) in
     let ruled = path-ruled (M .names) (M .depth) (M .slots) (unless-true _ 5 0 (c .0)) in
-    let formed = well-formed-moved p s t (rw (M .path) at (ruled .0)) (rw (M .path) at (ruled .1)) (S .formed) (T .formed) in
-    let words : w ≡ table (moved p s t) = rw (tab-tree source s S, tab-tree target t T, M .path) in
-    let size-is : length w ≡ 20 * suc (size (moved p s t)) = ap length words ∙ length-table (moved p s t) formed in
-    let answered : moveDue target source (M .names) (M .depth) (M .room) ≡ last = first-last _ last (M .accepted) in
+    let formed = formed-moved p q s t (rw (M .path) at (ruled .0)) (rw (M .path) at (ruled .1)) (S .formed) (T .formed) in
+    let words : w ≡ table (movedIn p q s t) = rw (tab-tree p source s S, tab-tree p target t T, M .path) in
+    let size-is : length w ≡ 20 * suc (size (movedIn p q s t)) = ap length words ∙ table-rows (movedIn p q s t) (formed .within) in
+    let answered : moveDue p target source (M .names) (M .depth) (M .room) ≡ last = first-last _ last (M .accepted) in
     let all : length w ≡ 20 * (length w / 20) = omega arith in
     record {
       is = M .table-left ∙ rw answered (take-at w (drop (length w) (M .room)) (20 * (length w / 20)) all) ∙ words;
@@ -65,22 +70,22 @@ made-tab p target source result t s M T S =
     }
 
 -- the two sides' tables are those of the two trees
-pub record Both (t : Tables) (s : Sides) : Type 0 where
-  pub left : Tab (t .left) (s .left)
-  pub right : Tab (t .right) (s .right)
+pub record Both (p : Profile) (t : Tables) (s : Sides) : Type 0 where
+  pub left : Tab p (t .left) (s .left)
+  pub right : Tab p (t .right) (s .right)
 
-pub carried-all : (ms : Lines) (s t : Tables) (u : Sides) → AllCarried ms s t → Both s u → Both t (after ms u)
-unfolding AllCarried after
-carried-all [] s t u h B = subst (λ (x : Tables). Both x u) h B
-carried-all (line p agreed ∷ ms) s t u (v, c, h) B = absurd c
-carried-all (line p clash ∷ ms) s t u (v, c, h) B = absurd c
-carried-all (line p leftGets ∷ ms) s t u (v, c, h) B =
-    carried-all ms v t _ h (record {
-      left = made-tab p (s .left) (s .right) (v .left) (u .left) (u .right) (c .0) (B .left) (B .right);
+pub carried-all : (p : Profile) (ms : Lines) (s t : Tables) (u : Sides) → AllCarried p ms s t → Both p s u → Both p t (afterIn p ms u)
+unfolding AllCarried afterIn
+carried-all p [] s t u h B = subst (λ (x : Tables). Both p x u) h B
+carried-all p (line q agreed ∷ ms) s t u (v, c, h) B = absurd c
+carried-all p (line q clash ∷ ms) s t u (v, c, h) B = absurd c
+carried-all p (line q leftGets ∷ ms) s t u (v, c, h) B =
+    carried-all p ms v t _ h (record {
+      left = made-tab p q (s .left) (s .right) (v .left) (u .left) (u .right) (c .0) (B .left) (B .right);
       right = rw (c .1) (B .right);
     })
-carried-all (line p rightGets ∷ ms) s t u (v, c, h) B =
-    carried-all ms v t _ h (record {
+carried-all p (line q rightGets ∷ ms) s t u (v, c, h) B =
+    carried-all p ms v t _ h (record {
       left = rw (c .1) (B .left);
-      right = made-tab p (s .right) (s .left) (v .right) (u .right) (u .left) (c .0) (B .right) (B .left);
+      right = made-tab p q (s .right) (s .left) (v .right) (u .right) (u .left) (c .0) (B .right) (B .left);
     })

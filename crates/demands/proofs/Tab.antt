@@ -1,33 +1,37 @@
--- Tables of well-formed trees of at most 4,096 rows: what a checked table is, and what every call leaves.
+-- Tables of at most 4,096 rows of trees that are well formed in a profile: what a table that passes is, and what every call leaves.
 use mathlib.Core.Path.{_≡_, refl, ap, sym, _∙_}
-use mathlib.Core.List.{List}
-use native.Mathlib.Omega.{arith}
+use mathlib.Core.List.{List, [], append-nil}
 use Prim.Native.Nat.{ℕ, suc, _≤_}
-use Rattle.tree.specs.Forest.{Forest, size}
-use Rattle.tree.specs.Rules.{Words32, WellFormed}
-use Rattle.row.specs.Tree.{table, treeOf}
-use Rattle.rules.specs.declared.Checked.the-variants.{Fine}
-use Rattle.rules.specs.Rules.{checked}
-use Rattle.row.proofs.Tree.{tree-table}
-use Rattle.rules.proofs.Fine.{fine-formed, fine-table, fine-length, fine-most, table-fine}
+use Rattle.tree.specs.Forest.{Forest, Node.folder, size}
+use Rattle.tree.specs.Rules.{NameRule, ContentRule, Within, Words32}
+use Rattle.tree.specs.declared.Profile.{Profile}
+use Rattle.tree.specs.Key.{FormedIn}
+use Rattle.row.specs.Tree.{rowsOf, nodeRows, rootName, siblings, table, treeOf}
+use Rattle.rules.specs.Keyed.{Passes}
+use Rattle.row.proofs.Flat.{Whole, rows-flat}
+use Rattle.row.proofs.Tree.{Ended, whole-rowsOf, siblings-rows}
+use Rattle.rules.proofs.Keyed.{passed-table, passed-formed, passed-most, table-passes}
 
-pub record Tab (w : List ℕ) (f : Forest) : Type 0 where
+pub record Tab (p : Profile) (w : List ℕ) (f : Forest) : Type 0 where
   pub is : w ≡ table f
-  pub formed : WellFormed f
+  pub formed : FormedIn p f
   pub rows : suc (size f) ≤ 4096
 
-pub tab-tree : (w : List ℕ) (f : Forest) → Tab w f → treeOf w ≡ f
-tab-tree w f t = ap treeOf (t .is) ∙ tree-table f (t .formed)
+-- the tree of a tree's table is the tree
+table-tree : (f : Forest) → Within NameRule ContentRule 16 f → treeOf (table f) ≡ f
+unfolding table treeOf nodeRows Whole Ended
+table-tree f W =
+    rw (rows-flat (nodeRows 0 rootName (folder f)) (refl, whole-rowsOf 16 1 f W)) (ap (siblings 1) (sym (append-nil (rowsOf 1 f))) ∙ siblings-rows 16 1 f [] W tt)
 
-pub tab-fine : (w : List ℕ) (f : Forest) → Tab w f → checked w ≡ Fine
-tab-fine w f t = ap checked (t .is) ∙ table-fine f (t .formed) (t .rows)
+module _ (p : Profile) where
+  pub tab-tree : (w : List ℕ) (f : Forest) → Tab p w f → treeOf w ≡ f
+  tab-tree w f t = ap treeOf (t .is) ∙ table-tree f (t .formed .within)
 
-pub fine-tab : (w : List ℕ) → Words32 w → checked w ≡ Fine → Tab w (treeOf w)
-fine-tab w s h = record {
-  is = sym (fine-table w h);
-  formed = fine-formed w h s;
-  rows = omega (arith, fine-length w h, fine-most w h);
-}
+  pub tab-passes : (w : List ℕ) (f : Forest) → Tab p w f → Passes p w
+  tab-passes w f t = rw (t .is) (table-passes p f (t .formed) (t .rows))
 
-pub formed-tab : (f : Forest) → WellFormed f → suc (size f) ≤ 4096 → Tab (table f) f
-formed-tab f w h = record { is = refl; formed = w; rows = h }
+  pub passes-tab : (w : List ℕ) → Words32 w → Passes p w → Tab p w (treeOf w)
+  passes-tab w s h = record { is = sym (passed-table p w h); formed = passed-formed p w h s; rows = passed-most p w h }
+
+  pub formed-tab : (f : Forest) → FormedIn p f → suc (size f) ≤ 4096 → Tab p (table f) f
+  formed-tab f w h = record { is = refl; formed = w; rows = h }

@@ -1,10 +1,11 @@
--- What each exported call leaves: the answer's eight words, and every lent buffer, for all inputs.
+-- What each exported call leaves in a profile: the answer's eight words, and every lent buffer, for all inputs.
 use mathlib.Core.Path.{_≡_}
 use mathlib.Core.List.{List}
 use mathlib.Core.Bool.{cond}
 use lib.ListN.{length}
 use Prim.Native.Nat.{ℕ}
 use Rattle.tree.specs.Name.{Name}
+use Rattle.tree.specs.declared.Profile.{Profile}
 use Rattle.row.specs.Buffer.{over}
 use Rattle.row.specs.Tree.{treeOf}
 use Rattle.rules.specs.Answer.{isAccepted}
@@ -17,26 +18,26 @@ use Rattle.listing_write.specs.Contract.{answerDue}
 use Rattle.kantifero.specs.Words.{eight, answerWords, reconciledWords, tallyWords}
 
 -- a reconciliation; before is what was lent, with the three words of the tally read as one
-pub record ReconcileCall (o l r : List ℕ) (before : Lent) (archive left right list tally answer : List ℕ) : Type 0 where
-  pub answered : answer ≡ reconciledWords (runOf o l r before .answer)
-  pub archive-left : archive ≡ runOf o l r before .lent .archive
-  pub left-left : left ≡ runOf o l r before .lent .left
-  pub right-left : right ≡ runOf o l r before .lent .right
-  pub list-left : list ≡ runOf o l r before .lent .list
-  pub tally-left : tally ≡ tallyWords (runOf o l r before .lent .tally)
+pub record ReconcileCall (p : Profile) (o l r : List ℕ) (before : Lent) (archive left right list tally answer : List ℕ) : Type 0 where
+  pub answered : answer ≡ reconciledWords (runOf p o l r before .answer)
+  pub archive-left : archive ≡ runOf p o l r before .lent .archive
+  pub left-left : left ≡ runOf p o l r before .lent .left
+  pub right-left : right ≡ runOf p o l r before .lent .right
+  pub list-left : list ≡ runOf p o l r before .lent .list
+  pub tally-left : tally ≡ tallyWords (runOf p o l r before .lent .tally)
 
 -- a move
-pub record MoveCall (target source : List ℕ) (names : List Name) (depth : ℕ) (lent result answer : List ℕ) : Type 0 where
-  pub answered : answer ≡ answerWords (moveOf target source names depth lent .answer)
-  pub room : result ≡ moveOf target source names depth lent .room
+pub record MoveCall (p : Profile) (target source : List ℕ) (names : List Name) (depth : ℕ) (lent result answer : List ℕ) : Type 0 where
+  pub answered : answer ≡ answerWords (moveOf p target source names depth lent .answer)
+  pub room : result ≡ moveOf p target source names depth lent .room
 
 -- a table w written into the bytes d
-pub record WriteCall (w d after answer : List ℕ) : Type 0 where
-  pub answered : answer ≡ answerWords (answerDue w (length d))
-  pub written : after ≡ cond (isAccepted (answerDue w (length d))) (over d (textOf (treeOf w))) d
+pub record WriteCall (p : Profile) (w d after answer : List ℕ) : Type 0 where
+  pub answered : answer ≡ answerWords (answerDue p w (length d))
+  pub written : after ≡ cond (isAccepted (answerDue p w (length d))) (over d (textOf (treeOf w))) d
 
 -- a text t read into the words lent, before
-pub record ReadCall (t before after answer : List ℕ) : Type 0 where
+pub record ReadCall (p : Profile) (t before after answer : List ℕ) : Type 0 where
   pub answered :
-      answer ≡ eight (answerOf (reading t (length before)) .number) (answerOf (reading t (length before)) .side) (answerOf (reading t (length before)) .place)
-  pub table : after ≡ tableAfter (reading t (length before)) (length before)
+      answer ≡ eight (answerOf (reading p t (length before)) .number) (answerOf (reading p t (length before)) .side) (answerOf (reading p t (length before)) .place)
+  pub table : after ≡ tableAfter (reading p t (length before)) (length before)

@@ -5,6 +5,7 @@ use mathlib.Core.Bool.{cond}
 use lib.Dec.{eqb}
 use lib.ListN.{length, take, drop, getD}
 use Prim.Native.Nat.{ℕ, _*_, _<_}
+use Rattle.tree.specs.declared.Profile.{Profile}
 use Rattle.carry.specs.Carried.{carriedRows}
 use Rattle.kantifero.specs.Words.{eight}
 
@@ -24,6 +25,6 @@ abbrev pub tableOn : ℕ → List ℕ → List ℕ → List ℕ
 tableOn side left right = cond (eqb side 2) left (cond (eqb side 3) right [])
 
 -- the answer, and that the words it tells of are the rows that the entry carries
-pub record CarriedCall (left right : List ℕ) (kind leftRow rightRow : ℕ) (answer : List ℕ) : Type 0 where
-  pub answered : answer ≡ partWords kind leftRow rightRow (length (carriedRows left right kind leftRow rightRow))
-  pub part : take (getD answer 2 0) (drop (getD answer 1 0) (tableOn (getD answer 0 0) left right)) ≡ carriedRows left right kind leftRow rightRow
+pub record CarriedCall (p : Profile) (left right : List ℕ) (kind leftRow rightRow : ℕ) (answer : List ℕ) : Type 0 where
+  pub answered : answer ≡ partWords kind leftRow rightRow (length (carriedRows p left right kind leftRow rightRow))
+  pub part : take (getD answer 2 0) (drop (getD answer 1 0) (tableOn (getD answer 0 0) left right)) ≡ carriedRows p left right kind leftRow rightRow

@@ -1,13 +1,20 @@
 -- The eight words of an answer: number, side and place; for an accepted reconciliation its four counts; else zeros.
 use mathlib.Core.List.{List, [], _∷_}
+use mathlib.Core.Bool.{cond}
+use lib.Dec.{eqb}
 use lib.ListN.{getD}
 use Prim.Native.Nat.{ℕ, _<_}
+use Rattle.tree.specs.declared.Profile.{Profile}
+use Rattle.tree.specs.declared.Profile.the-variants.{Exact, Folded}
 use Rattle.rules.specs.declared.Answer.{Answer}
 use Rattle.rules.specs.Answer.{numberOf, sideOf, placeOf}
-use Rattle.rules.specs.Refusal.{refusalOf}
-use Rattle.rules.specs.Rules.{checked}
+use Rattle.rules.specs.Contract.{checkDue}
 use Rattle.tally.specs.declared.Tally.{Tally}
 use Rattle.reconcile.specs.declared.Reconciled.{Reconciled}
+
+-- a profile as a word: 0 every byte counts, any other letter case is ignored
+unfoldable pub profileOf : ℕ → Profile
+profileOf w = cond (eqb w 0) Exact Folded
 
 -- three words, and zeros
 abbrev pub eight : ℕ → ℕ → ℕ → List ℕ
@@ -16,9 +23,9 @@ eight number side place = number ∷ side ∷ place ∷ 0 ∷ 0 ∷ 0 ∷ 0 ∷ 
 abbrev pub answerWords : Answer → List ℕ
 answerWords a = eight (numberOf a) (sideOf a) (placeOf a)
 
--- the answer to a table: numbers 1 and 2, side 1
-abbrev pub checkWords : List ℕ → List ℕ
-checkWords t = answerWords (refusalOf (checked t) 1)
+-- the answer to a table: numbers 1, 2 and 16, side 1
+abbrev pub checkWords : Profile → List ℕ → List ℕ
+checkWords p t = answerWords (checkDue p t)
 
 -- words 3 to 6 are the rows of the new archive, left and right, and the list's entries
 abbrev pub reconciledWords : Reconciled → List ℕ

@@ -1,14 +1,26 @@
-// The public calls for programs in C and Rust. Every answer is eight words, all of which are written.
+// The public calls for programs in C and Rust. Each takes its profile as a word, and every answer is eight words, all of which
+// are written.
 use reconcile::Reconciled;
 use rules::Answer;
 use tally::Tally;
+use tree::Profile;
 ghost use mathlib.Core.Path.{_≡_};
 ghost use Prim.Native.Nat.{_<_};
 ghost use Rattle.rules.specs.Answer.{placeOf};
 ghost use Rattle.reconcile.specs.Run.{lent};
-ghost use Rattle.kantifero.specs.Words.{eight, answerWords, checkWords, reconciledWords, tallyIn, Narrow};
+ghost use Rattle.kantifero.specs.Words.{profileOf, eight, answerWords, checkWords, reconciledWords, tallyIn, Narrow};
 ghost use Rattle.kantifero.specs.Calls.{ReconcileCall, MoveCall, WriteCall, ReadCall};
 ghost use Rattle.kantifero.specs.Carried.{partWords, Within, CarriedCall};
+
+// 0 every byte counts, any other word letter case is ignored.
+fn profile_of(word: u32) -> Profile
+    ensures { λ r. ⌜ r ≡ profileOf word ⌝ }
+{
+    if word == 0 {
+        return Profile::Exact;
+    }
+    Profile::Folded
+}
 
 // A count in 32 bits.
 fn narrow(n: usize) -> u32
@@ -71,18 +83,19 @@ fn part_words(kind: u32, left_row: u32, right_row: u32, n: usize) -> [u32; 8]
     three_words(2, 20 * left_row, narrow(n))
 }
 
-// Whether a table keeps the rules.
+// Whether a table keeps the rules of a profile.
 #[no_mangle]
-pub extern "C" fn kantifero_check(table: &[u32], answer: &mut [u32; 8])
-    ensures { λ _. ⌜ now (answer .exit) ≡ checkWords (now (table .entry)) ⌝ }
+pub extern "C" fn kantifero_check(profile: u32, table: &[u32], answer: &mut [u32; 8])
+    ensures { λ _. ⌜ now (answer .exit) ≡ checkWords (profileOf profile) (now (table .entry)) ⌝ }
 {
-    let words = answer_words(rules::check_table(table));
+    let words = answer_words(rules::check_table(profile_of(profile), table));
     *answer = words;
 }
 
 // Reconciles left and right by the archive.
 #[no_mangle]
 pub extern "C" fn kantifero_reconcile(
+    profile: u32,
     archive: &[u32],
     left: &[u32],
     right: &[u32],
@@ -93,7 +106,7 @@ pub extern "C" fn kantifero_reconcile(
     tally: &mut [u32; 3],
     answer: &mut [u32; 8],
 )
-    ensures { λ _. ⌜ ReconcileCall (now (archive .entry)) (now (left .entry)) (now (right .entry))
+    ensures { λ _. ⌜ ReconcileCall (profileOf profile) (now (archive .entry)) (now (left .entry)) (now (right .entry))
         (lent (now («new_archive» .entry)) (now («new_left» .entry)) (now («new_right» .entry)) (now (list .entry)) (tallyIn (now (tally .entry))))
         (now («new_archive» .exit)) (now («new_left» .exit)) (now («new_right» .exit)) (now (list .exit)) (now (tally .exit)) (now (answer .exit)) ⌝ }
 {
@@ -103,6 +116,7 @@ pub extern "C" fn kantifero_reconcile(
         clash: tally[2],
     };
     let ran = reconcile::reconcile_plain(
+        profile_of(profile),
         archive,
         left,
         right,
@@ -121,6 +135,7 @@ pub extern "C" fn kantifero_reconcile(
 // Makes the target's subtree at a path the source's.
 #[no_mangle]
 pub extern "C" fn kantifero_move(
+    profile: u32,
     target: &[u32],
     source: &[u32],
     names: &[[u32; 8]; 16],
@@ -128,16 +143,24 @@ pub extern "C" fn kantifero_move(
     result: &mut [u32],
     answer: &mut [u32; 8],
 )
-    ensures { λ _. ⌜ MoveCall (now (target .entry)) (now (source .entry)) (now (names .entry)) depth (now (result .entry)) (now (result .exit)) (now (answer .exit)) ⌝ }
+    ensures { λ _. ⌜ MoveCall (profileOf profile) (now (target .entry)) (now (source .entry)) (now (names .entry)) depth (now (result .entry)) (now (result .exit)) (now (answer .exit)) ⌝ }
 {
     let path = *names;
-    let words = answer_words(moves::make_move(target, source, path, depth, result));
+    let words = answer_words(moves::make_move(
+        profile_of(profile),
+        target,
+        source,
+        path,
+        depth,
+        result,
+    ));
     *answer = words;
 }
 
 // Where the rows stand that a list entry carries.
 #[no_mangle]
 pub extern "C" fn kantifero_carried<'a>(
+    profile: u32,
     left: &'a [u32],
     right: &'a [u32],
     kind: u32,
@@ -145,27 +168,37 @@ pub extern "C" fn kantifero_carried<'a>(
     right_row: u32,
     answer: &mut [u32; 8],
 )
-    ensures { λ _. ⌜ CarriedCall (now (left .entry)) (now (right .entry)) kind «left_row» «right_row» (now (answer .exit)) ⌝ }
+    ensures { λ _. ⌜ CarriedCall (profileOf profile) (now (left .entry)) (now (right .entry)) kind «left_row» «right_row» (now (answer .exit)) ⌝ }
 {
-    let part = carry::carried(left, right, kind, left_row, right_row);
+    let part = carry::carried(profile_of(profile), left, right, kind, left_row, right_row);
     let words = part_words(kind, left_row, right_row, part.len());
     *answer = words;
 }
 
 // Writes a table as a listing.
 #[no_mangle]
-pub extern "C" fn kantifero_write(table: &[u32], text: &mut [u8], answer: &mut [u32; 8])
-    ensures { λ _. ⌜ WriteCall (now (table .entry)) (now (text .entry)) (now (text .exit)) (now (answer .exit)) ⌝ }
+pub extern "C" fn kantifero_write(
+    profile: u32,
+    table: &[u32],
+    text: &mut [u8],
+    answer: &mut [u32; 8],
+)
+    ensures { λ _. ⌜ WriteCall (profileOf profile) (now (table .entry)) (now (text .entry)) (now (text .exit)) (now (answer .exit)) ⌝ }
 {
-    let words = answer_words(listing_write::write(table, text));
+    let words = answer_words(listing_write::write(profile_of(profile), table, text));
     *answer = words;
 }
 
 // Reads a listing into a table.
 #[no_mangle]
-pub extern "C" fn kantifero_read(text: &[u8], table: &mut [u32], answer: &mut [u32; 8])
-    ensures { λ _. ⌜ ReadCall (now (text .entry)) (now (table .entry)) (now (table .exit)) (now (answer .exit)) ⌝ }
+pub extern "C" fn kantifero_read(
+    profile: u32,
+    text: &[u8],
+    table: &mut [u32],
+    answer: &mut [u32; 8],
+)
+    ensures { λ _. ⌜ ReadCall (profileOf profile) (now (text .entry)) (now (table .entry)) (now (table .exit)) (now (answer .exit)) ⌝ }
 {
-    let words = answer_words(listing_read::read(text, table));
+    let words = answer_words(listing_read::read(profile_of(profile), text, table));
     *answer = words;
 }

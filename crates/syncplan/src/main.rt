@@ -1,5 +1,8 @@
-// syncplan: three listings in the working directory, the plan on standard output.
+// syncplan: three listings in the working directory, the plan on standard output; with --ignore-case where letter case is
+// ignored.
+use libc::STDERR_FILENO;
 use libc::STDOUT_FILENO;
+use tree::Profile;
 ghost use mathlib.Core.Path.{_≡_};
 ghost use lib.ListN.{length};
 ghost use Rattle.io.specs.Counts.{Counts};
@@ -30,7 +33,28 @@ fn page() -> [u8; 1048576]
     [0; 1048576]
 }
 
-fn main() {
+// What the program is asked for: a plan, or something that it doesn't know.
+enum Asked {
+    Plan(Profile),
+    Other,
+}
+
+// The argument, where there is one.
+fn asked() -> Asked {
+    let n = os::arg_count();
+    if n < 2 {
+        return Asked::Plan(Profile::Exact);
+    }
+    let mut word = [0u8; 16];
+    let e = os::arg(1, &mut word);
+    if n == 2 && scan::same_bytes(&word[..e], b"--ignore-case") {
+        return Asked::Plan(Profile::Folded);
+    }
+    Asked::Other
+}
+
+// The plan of the three listings.
+fn print(profile: Profile) {
     let mut archive = [0u8; 16385];
     let a = load(b"archive.mtree", &mut archive);
     let mut left = [0u8; 16385];
@@ -38,6 +62,15 @@ fn main() {
     let mut right = [0u8; 16385];
     let c = load(b"right.mtree", &mut right);
     let mut out = page();
-    let n = printout::print_plan(&mut out, &archive[..a], &left[..b], &right[..c]);
+    let n = printout::print_plan(profile, &mut out, &archive[..a], &left[..b], &right[..c]);
     io::write_all(STDOUT_FILENO, &out[..n]);
+}
+
+fn main() {
+    match asked() {
+        Asked::Plan(profile) => print(profile),
+        Asked::Other => {
+            io::write_all(STDERR_FILENO, b"usage: syncplan [--ignore-case]\n");
+        }
+    }
 }

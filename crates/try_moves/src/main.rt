@@ -3,6 +3,7 @@
 //   move TARGET SOURCE PATH DEPTH ROOM  a path has a byte a name
 //   add ROWS SOURCE NAME ROOM           a move at a name of a root and its files
 use libc::STDIN_FILENO;
+use tree::Profile;
 
 // The slot of a byte: a name of that byte, or one of three that no path may have within its depth.
 fn slot_of(b: u8) -> [u32; 8] {
@@ -55,6 +56,7 @@ fn tell_move(
     }
     show::print_case(line);
     let rows = show::print_answer(moves::make_move(
+        Profile::Exact,
         target,
         source,
         names,

@@ -8,6 +8,7 @@ ghost use Prim.Native.Nat.{_<_};
 ghost use lib.ListN.{length};
 use libc::STDIN_FILENO;
 use libc::STDOUT_FILENO;
+use tree::Profile;
 
 // A byte of a name: itself, or its two digits after %.
 fn print_byte(b: u8) {
@@ -130,7 +131,7 @@ fn tell_rows(table: &[u32], rows: usize) {
 fn tell(line: &[u8], text: &[u8], table: &mut [u32]) {
     let n = table.len();
     sample::set_words(table, 0, n, show::CANARY);
-    let answer = listing_read::read(text, table);
+    let answer = listing_read::read(Profile::Exact, text, table);
     show::print_case(line);
     let rows = show::print_answer(answer);
     tell_rows(table, rows);

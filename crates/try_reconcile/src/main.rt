@@ -5,6 +5,7 @@
 use libc::STDIN_FILENO;
 use reconcile::Ran;
 use tally::Tally;
+use tree::Profile;
 ghost use Prim.Native.Nat.{_≤_};
 
 // The words of a room, in field k of a line.
@@ -69,6 +70,7 @@ fn tell_run(
         clash: 9,
     };
     let ran = reconcile::reconcile_plain(
+        Profile::Exact,
         o,
         l,
         r,

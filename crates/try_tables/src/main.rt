@@ -8,6 +8,7 @@ ghost use mathlib.Core.Path.{_≡_};
 ghost use Prim.Native.Nat.{_<_};
 ghost use lib.ListN.{length};
 use libc::STDIN_FILENO;
+use tree::Profile;
 
 // The answer to the first n words.
 fn tell_check(line: &[u8], words: &[u32], n: usize) {
@@ -15,7 +16,7 @@ fn tell_check(line: &[u8], words: &[u32], n: usize) {
         return;
     }
     show::print_case(line);
-    show::print_answer(rules::check_table(&words[..n]));
+    show::print_answer(rules::check_table(Profile::Exact, &words[..n]));
     show::print(b"\n");
 }
 
@@ -71,7 +72,14 @@ fn try_entry(line: &[u8]) {
     let right_row = sample::small(line, 5);
     tell_rows(
         line,
-        carry::carried(&left[..n], &right[..m], kind, left_row, right_row),
+        carry::carried(
+            Profile::Exact,
+            &left[..n],
+            &right[..m],
+            kind,
+            left_row,
+            right_row,
+        ),
     );
 }
 

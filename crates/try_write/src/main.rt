@@ -4,6 +4,7 @@ ghost use mathlib.Core.Path.{_≡_};
 ghost use Prim.Native.Nat.{_<_};
 ghost use lib.ListN.{length};
 use libc::STDOUT_FILENO;
+use tree::Profile;
 
 // Byte j of all that a name may hold, 1 to 255 but 47; zero past them.
 fn byte(j: u32) -> u32
@@ -111,7 +112,7 @@ fn print(text: &[u8], n: usize) {
 
 // Writes a table into the lent bytes, prints the text, and tells the answer; the bytes written.
 fn show(table: &[u32], text: &mut [u8]) -> usize {
-    match listing_write::write(table, text) {
+    match listing_write::write(Profile::Exact, table, text) {
         rules::Answer::Accepted { place } => {
             print(text, place);
             tell(0, 0, place);

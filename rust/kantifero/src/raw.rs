@@ -2,10 +2,18 @@
 //! pointer and its length. A slice's pointer is never null, and the borrow checker sees to it that what is written
 //! overlaps nothing else, which is all that the calls ask.
 
+use crate::Profile;
+
 mod exported {
     extern "C" {
-        pub fn kantifero_check(table: *const u32, words: usize, answer: *mut [u32; 8]);
+        pub fn kantifero_check(
+            profile: u32,
+            table: *const u32,
+            words: usize,
+            answer: *mut [u32; 8],
+        );
         pub fn kantifero_reconcile(
+            profile: u32,
             archive: *const u32,
             archive_words: usize,
             left: *const u32,
@@ -24,6 +32,7 @@ mod exported {
             answer: *mut [u32; 8],
         );
         pub fn kantifero_move(
+            profile: u32,
             target: *const u32,
             target_words: usize,
             source: *const u32,
@@ -35,6 +44,7 @@ mod exported {
             answer: *mut [u32; 8],
         );
         pub fn kantifero_carried(
+            profile: u32,
             left: *const u32,
             left_words: usize,
             right: *const u32,
@@ -45,6 +55,7 @@ mod exported {
             answer: *mut [u32; 8],
         );
         pub fn kantifero_write(
+            profile: u32,
             table: *const u32,
             words: usize,
             text: *mut u8,
@@ -52,6 +63,7 @@ mod exported {
             answer: *mut [u32; 8],
         );
         pub fn kantifero_read(
+            profile: u32,
             text: *const u8,
             bytes: usize,
             table: *mut u32,
@@ -61,21 +73,35 @@ mod exported {
     }
 }
 
-pub fn check(table: &[u32]) -> [u32; 8] {
+/// A profile as the calls take it.
+fn word(profile: Profile) -> u32 {
+    match profile {
+        Profile::Exact => 0,
+        Profile::Folded => 1,
+    }
+}
+
+pub fn check(profile: Profile, table: &[u32]) -> [u32; 8] {
     let mut answer = [0; 8];
     // SAFETY: as said at the top of this file.
-    unsafe { exported::kantifero_check(table.as_ptr(), table.len(), &mut answer) };
+    unsafe { exported::kantifero_check(word(profile), table.as_ptr(), table.len(), &mut answer) };
     answer
 }
 
 /// The three tables, then the four buffers in the order archive, left, right, list.
-pub fn reconcile(tables: [&[u32]; 3], buffers: [&mut [u32]; 4], tally: &mut [u32; 3]) -> [u32; 8] {
+pub fn reconcile(
+    profile: Profile,
+    tables: [&[u32]; 3],
+    buffers: [&mut [u32]; 4],
+    tally: &mut [u32; 3],
+) -> [u32; 8] {
     let [archive, left, right] = tables;
     let [new_archive, new_left, new_right, list] = buffers;
     let mut answer = [0; 8];
     // SAFETY: as said at the top of this file.
     unsafe {
         exported::kantifero_reconcile(
+            word(profile),
             archive.as_ptr(),
             archive.len(),
             left.as_ptr(),
@@ -98,6 +124,7 @@ pub fn reconcile(tables: [&[u32]; 3], buffers: [&mut [u32]; 4], tally: &mut [u32
 }
 
 pub fn make_move(
+    profile: Profile,
     target: &[u32],
     source: &[u32],
     names: &[[u32; 8]; 16],
@@ -108,6 +135,7 @@ pub fn make_move(
     // SAFETY: as said at the top of this file.
     unsafe {
         exported::kantifero_move(
+            word(profile),
             target.as_ptr(),
             target.len(),
             source.as_ptr(),
@@ -122,12 +150,13 @@ pub fn make_move(
     answer
 }
 
-pub fn carried(left: &[u32], right: &[u32], entry: [u32; 3]) -> [u32; 8] {
+pub fn carried(profile: Profile, left: &[u32], right: &[u32], entry: [u32; 3]) -> [u32; 8] {
     let [kind, left_row, right_row] = entry;
     let mut answer = [0; 8];
     // SAFETY: as said at the top of this file.
     unsafe {
         exported::kantifero_carried(
+            word(profile),
             left.as_ptr(),
             left.len(),
             right.as_ptr(),
@@ -141,11 +170,12 @@ pub fn carried(left: &[u32], right: &[u32], entry: [u32; 3]) -> [u32; 8] {
     answer
 }
 
-pub fn write(table: &[u32], text: &mut [u8]) -> [u32; 8] {
+pub fn write(profile: Profile, table: &[u32], text: &mut [u8]) -> [u32; 8] {
     let mut answer = [0; 8];
     // SAFETY: as said at the top of this file.
     unsafe {
         exported::kantifero_write(
+            word(profile),
             table.as_ptr(),
             table.len(),
             text.as_mut_ptr(),
@@ -156,11 +186,12 @@ pub fn write(table: &[u32], text: &mut [u8]) -> [u32; 8] {
     answer
 }
 
-pub fn read(text: &[u8], table: &mut [u32]) -> [u32; 8] {
+pub fn read(profile: Profile, text: &[u8], table: &mut [u32]) -> [u32; 8] {
     let mut answer = [0; 8];
     // SAFETY: as said at the top of this file.
     unsafe {
         exported::kantifero_read(
+            word(profile),
             text.as_ptr(),
             text.len(),
             table.as_mut_ptr(),

@@ -6,12 +6,12 @@ use std::fmt;
 /// leaves its table all zero.
 #[derive(Clone, Copy, Debug, PartialEq, Eq, Hash)]
 pub struct Refusal {
-    /// The reason, 1 to 14; see [`reason`](Refusal::reason).
+    /// The reason, 1 to 14 or 16; see [`reason`](Refusal::reason).
     pub number: u32,
     /// Which table or result: 1 archive (or the one table of a call), 2 left (or a move's target and its result), 3 right
     /// (or a move's source), 4 list, 0 where it is none of them.
     pub side: u32,
-    /// The row of number 2, the line of a text, and else 0.
+    /// The row of numbers 2 and 16, the line of a text, and else 0.
     pub place: u32,
 }
 
@@ -33,6 +33,7 @@ impl Refusal {
             12 => "the text has no root",
             13 => "the line's name is in its folder already",
             14 => "the line is at depth 17",
+            16 => "the row's name is its sibling's where letter case is ignored",
             _ => "a number that no call gives",
         }
     }
@@ -49,7 +50,7 @@ impl fmt::Display for Refusal {
             _ => (),
         }
         match self.number {
-            2 => write!(f, ", row {}", self.place),
+            2 | 16 => write!(f, ", row {}", self.place),
             _ if self.place != 0 => write!(f, ", line {}", self.place),
             _ => Ok(()),
         }

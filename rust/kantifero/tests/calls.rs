@@ -2,6 +2,7 @@
 mod common;
 
 use common::{cases, file, row, tree, CANARY};
+use kantifero::Profile::Exact;
 use kantifero::{Refusal, Tally, NO_ROW, ROW};
 
 #[test]
@@ -11,19 +12,19 @@ fn a_move_takes_a_subtree_or_its_absence() {
     names[0] = kantifero::name(b"p").unwrap();
     let mut result = [CANARY; 80];
     assert_eq!(
-        kantifero::make_move(&none, &p, &names, 1, &mut result),
+        kantifero::make_move(Exact, &none, &p, &names, 1, &mut result),
         Ok(3)
     );
     assert_eq!(result[..60], p[..]);
     assert_eq!(
-        kantifero::make_move(&p, &none, &names, 1, &mut result),
+        kantifero::make_move(Exact, &p, &none, &names, 1, &mut result),
         Ok(1)
     );
     assert_eq!(result[..20], none[..]);
     assert_eq!(result[20..60], p[20..]);
     assert!(result[60..].iter().all(|word| *word == CANARY));
     names[1] = kantifero::name(b"x").unwrap();
-    let refusal = kantifero::make_move(&none, &p, &names, 2, &mut result).unwrap_err();
+    let refusal = kantifero::make_move(Exact, &none, &p, &names, 2, &mut result).unwrap_err();
     assert_eq!(
         refusal,
         Refusal {
@@ -40,8 +41,14 @@ fn an_entry_carries_a_part_of_its_source() {
         tree(&[]),
         tree(&[row(1, 0, b"p", 0), row(2, 1, b"x", 1), file(b"q", 2)]),
     );
-    assert_eq!(kantifero::carried(&p, &none, [2, 1, NO_ROW]), &p[20..60]);
-    assert_eq!(kantifero::carried(&none, &p, [1, NO_ROW, 3]), &p[60..]);
+    assert_eq!(
+        kantifero::carried(Exact, &p, &none, [2, 1, NO_ROW]),
+        &p[20..60]
+    );
+    assert_eq!(
+        kantifero::carried(Exact, &none, &p, [1, NO_ROW, 3]),
+        &p[60..]
+    );
     for entry in [
         [1, 1, NO_ROW],
         [3, 1, 1],
@@ -50,9 +57,9 @@ fn an_entry_carries_a_part_of_its_source() {
         [2, 4, 0],
         [2, 214_748_365, 0],
     ] {
-        assert!(kantifero::carried(&p, &none, entry).is_empty());
+        assert!(kantifero::carried(Exact, &p, &none, entry).is_empty());
     }
-    assert!(kantifero::carried(&p, &none[..19], [2, 1, NO_ROW]).is_empty());
+    assert!(kantifero::carried(Exact, &p, &none[..19], [2, 1, NO_ROW]).is_empty());
 }
 
 #[test]
@@ -60,11 +67,11 @@ fn a_text_is_written_and_read_back() {
     for (_, left, right, _, archive) in cases() {
         for table in [left, right, archive] {
             let mut text = vec![0xC7; 600];
-            let bytes = kantifero::write(&table, &mut text).unwrap();
+            let bytes = kantifero::write(Exact, &table, &mut text).unwrap();
             assert!(text[bytes..].iter().all(|byte| *byte == 0xC7));
             let mut back = vec![CANARY; table.len() + 30];
             assert_eq!(
-                kantifero::read(&text[..bytes], &mut back),
+                kantifero::read(Exact, &text[..bytes], &mut back),
                 Ok(table.len() / ROW)
             );
             assert_eq!(back[..table.len()], table[..]);
@@ -89,7 +96,7 @@ fn a_refused_text_leaves_zeros_and_its_line() {
     ];
     for (text, number, line) in refusals {
         let mut table = [CANARY; 50];
-        let refusal = kantifero::read(text, &mut table).unwrap_err();
+        let refusal = kantifero::read(Exact, text, &mut table).unwrap_err();
         assert_eq!(
             refusal,
             Refusal {
@@ -105,6 +112,7 @@ fn a_refused_text_leaves_zeros_and_its_line() {
 #[test]
 fn every_refusal_has_a_sentence() {
     let mut sentences: Vec<String> = (1..=14)
+        .chain([16])
         .map(|number| {
             Refusal {
                 number,
@@ -116,7 +124,7 @@ fn every_refusal_has_a_sentence() {
         .collect();
     sentences.sort();
     sentences.dedup();
-    assert_eq!(sentences.len(), 14);
+    assert_eq!(sentences.len(), 15);
     let refusal = Refusal {
         number: 2,
         side: 3,
@@ -140,8 +148,8 @@ fn a_table_has_4096_rows_at_most() {
         .map(|i| file(format!("{i:04}").as_bytes(), i))
         .collect();
     let (none, full, last) = (tree(&[]), tree(&files[..4095]), tree(&files[4095..]));
-    assert_eq!(kantifero::check(&full), Ok(()));
-    let refusal = kantifero::check(&tree(&files)).unwrap_err();
+    assert_eq!(kantifero::check(Exact, &full), Ok(()));
+    let refusal = kantifero::check(Exact, &tree(&files)).unwrap_err();
     assert_eq!(
         refusal,
         Refusal {
@@ -150,7 +158,7 @@ fn a_table_has_4096_rows_at_most() {
             place: 0
         }
     );
-    let run = kantifero::reconcile_in_new(&none, &full, &none).unwrap();
+    let run = kantifero::reconcile_in_new(Exact, &none, &full, &none).unwrap();
     assert_eq!((&run.archive, &run.right), (&full, &full));
     assert_eq!(
         run.tally,
@@ -160,7 +168,7 @@ fn a_table_has_4096_rows_at_most() {
             clash: 0
         }
     );
-    let refusal = kantifero::reconcile_in_new(&none, &full, &last).unwrap_err();
+    let refusal = kantifero::reconcile_in_new(Exact, &none, &full, &last).unwrap_err();
     assert_eq!(
         refusal,
         Refusal {
@@ -172,7 +180,7 @@ fn a_table_has_4096_rows_at_most() {
     let mut names = [[0; 8]; 16];
     names[0] = kantifero::name(b"4095").unwrap();
     let mut result = vec![0; full.len() + ROW];
-    let refusal = kantifero::make_move(&full, &last, &names, 1, &mut result).unwrap_err();
+    let refusal = kantifero::make_move(Exact, &full, &last, &names, 1, &mut result).unwrap_err();
     assert_eq!(
         refusal,
         Refusal {

@@ -2,12 +2,13 @@
 mod common;
 
 use common::{cases, file, tree, CANARY};
+use kantifero::Profile::Exact;
 use kantifero::{Buffers, Counts, Refusal, Tally};
 
 #[test]
 fn cases_1_to_11() {
     for (i, (archive, left, right, list, new_archive)) in cases().into_iter().enumerate() {
-        let run = kantifero::reconcile_in_new(&archive, &left, &right).unwrap();
+        let run = kantifero::reconcile_in_new(Exact, &archive, &left, &right).unwrap();
         assert_eq!(run.list, list, "list of C{}", i + 1);
         assert_eq!(run.archive, new_archive, "archive of C{}", i + 1);
         let count = |kind| list.iter().filter(|entry| entry[0] == kind).count() as u32;
@@ -22,7 +23,7 @@ fn cases_1_to_11() {
             i + 1
         );
         for new in [&run.archive, &run.left, &run.right] {
-            assert_eq!(kantifero::check(new), Ok(()));
+            assert_eq!(kantifero::check(Exact, new), Ok(()));
         }
     }
 }
@@ -43,7 +44,7 @@ fn buffers_are_written_at_their_start_alone() {
         right,
         list,
     };
-    let counts = kantifero::reconcile(&none, &f, &none, buffers, &mut tally);
+    let counts = kantifero::reconcile(Exact, &none, &f, &none, buffers, &mut tally);
     assert_eq!(
         counts,
         Ok(Counts {
@@ -91,7 +92,8 @@ fn a_refused_reconciliation_changes_nothing() {
             right: &mut right[..rooms[2]],
             list: &mut list[..rooms[3]],
         };
-        let refusal = kantifero::reconcile(&none, &f, &none, buffers, &mut tally).unwrap_err();
+        let refusal =
+            kantifero::reconcile(Exact, &none, &f, &none, buffers, &mut tally).unwrap_err();
         assert_eq!(
             refusal,
             Refusal {

@@ -10,14 +10,14 @@ use Rattle.printout.proofs.print_plan.Statement.{statement}
 use Rattle.printout.proofs.print_plan.Tie as tie
 
 -- the files that are taken
-archive-read : (c : tie.After-a) → Taken (fileRead (c .before .before .before .before .before .before .before .before .before .before .before .before .before .before .before .args .archive .now)) (c .before .before .before .before .before .before .before .before .before .read-file .last .1 .0) (c .a .given .0 .0)
-archive-read c = taken _ _ _ _ (c .before .before .before .before .before .before .before .before .before .read-file .ensures) (c .a .given .1)
+archive-read : (c : tie.After-a) → Taken (c .before .before .before .before .before .before .before .before .before .before .before .before .before .before .before .args .profile) (fileRead (c .before .before .before .before .before .before .before .before .before .before .before .before .before .before .before .args .profile) (c .before .before .before .before .before .before .before .before .before .before .before .before .before .before .before .args .archive .now)) (c .before .before .before .before .before .before .before .before .before .read-file .last .1 .0) (c .a .given .0 .0)
+archive-read c = taken _ _ _ _ _ (c .before .before .before .before .before .before .before .before .before .read-file .ensures) (c .a .given .1)
 
-left-read : (c : tie.After-b) → Taken (fileRead (c .before .before .before .before .before .before .before .before .before .before .before .before .before .before .before .before .before .before .args .left .now)) (c .before .before .before .before .before .before .before .before .before .read-file2 .last .1 .0) (c .b .given .0 .0)
-left-read c = taken _ _ _ _ (c .before .before .before .before .before .before .before .before .before .read-file2 .ensures) (c .b .given .1)
+left-read : (c : tie.After-b) → Taken (c .before .before .before .before .before .before .before .before .before .before .before .before .before .before .before .before .before .before .args .profile) (fileRead (c .before .before .before .before .before .before .before .before .before .before .before .before .before .before .before .before .before .before .args .profile) (c .before .before .before .before .before .before .before .before .before .before .before .before .before .before .before .before .before .before .args .left .now)) (c .before .before .before .before .before .before .before .before .before .read-file2 .last .1 .0) (c .b .given .0 .0)
+left-read c = taken _ _ _ _ _ (c .before .before .before .before .before .before .before .before .before .read-file2 .ensures) (c .b .given .1)
 
-right-read : (c : tie.After-c) → Taken (fileRead (c .before .before .before .before .before .before .before .before .before .before .before .before .before .before .before .before .before .before .before .before .before .args .right .now)) (c .before .before .before .before .before .before .before .before .before .read-file3 .last .1 .0) (c .c .given .0 .0)
-right-read c = taken _ _ _ _ (c .before .before .before .before .before .before .before .before .before .read-file3 .ensures) (c .c .given .1)
+right-read : (c : tie.After-c) → Taken (c .before .before .before .before .before .before .before .before .before .before .before .before .before .before .before .before .before .before .before .before .before .args .profile) (fileRead (c .before .before .before .before .before .before .before .before .before .before .before .before .before .before .before .before .before .before .before .before .before .args .profile) (c .before .before .before .before .before .before .before .before .before .before .before .before .before .before .before .before .before .before .before .before .before .args .right .now)) (c .before .before .before .before .before .before .before .before .before .read-file3 .last .1 .0) (c .c .given .0 .0)
+right-read c = taken _ _ _ _ _ (c .before .before .before .before .before .before .before .before .before .read-file3 .ensures) (c .c .given .1)
 
 mul-o : tie.Need-mul-o
 mul-o c = let h = archive-read (c .before .before .before .before .before .before .before .before) .few in omega arith
@@ -55,7 +55,7 @@ returns c =
     let o = archive-read (c .before .before .before .before .before .before .before .before .before .before .before .before .before .before) in
     let l = left-read (c .before .before .before .before .before .before .before .before .before .before .before) in
     let r = right-read (c .before .before .before .before .before .before .before .before) in
-    rw (all-read (s .archive .now) (s .left .now) (s .right .now) (o .tree) (o .read) (l .tree) (l .read) (r .tree) (r .read))
+    rw (all-read (s .profile) (s .archive .now) (s .left .now) (s .right .now) (o .tree) (o .read) (l .tree) (l .read) (r .tree) (r .read))
     (rw (o .same, l .same, r .same) at (c .before .before .put-run .ensures))
 
 returns-2 : tie.Need-returns-2
@@ -63,20 +63,20 @@ returns-2 c =
     let s = c .before .before .before .before .before .before .before .before .before .before .before .before .before .before .before .before .before .before .before .before .before .before .before .before .before .before .before .args in
     let o = archive-read (c .before .before .before .before .before .before .before .before .before .before .before .before) in
     let l = left-read (c .before .before .before .before .before .before .before .before .before) in
-    rw (no-right (s .archive .now) (s .left .now) (s .right .now) (o .tree) (o .read) (l .tree) (l .read) _ _ (not-taken _ _ _ _ _ _ (c .before .before .before .before .before .before .before .before .before .before .before .before .before .before .before .read-file3 .ensures) (c .before .before .before .before .before .before .c2 .given .1)))
+    rw (no-right (s .profile) (s .archive .now) (s .left .now) (s .right .now) (o .tree) (o .read) (l .tree) (l .read) _ _ (not-taken _ _ _ _ _ _ _ (c .before .before .before .before .before .before .before .before .before .before .before .before .before .before .before .read-file3 .ensures) (c .before .before .before .before .before .before .c2 .given .1)))
     (puts-within 1048576 (omega arith) (c .before .before .put-refused .ensures))
 
 returns-3 : tie.Need-returns-3
 returns-3 c =
     let s = c .before .before .before .before .before .before .before .before .before .before .before .before .before .before .before .before .before .before .before .before .before .before .before .before .args in
     let o = archive-read (c .before .before .before .before .before .before .before .before .before) in
-    rw (no-left (s .archive .now) (s .left .now) (s .right .now) (o .tree) (o .read) _ _ (not-taken _ _ _ _ _ _ (c .before .before .before .before .before .before .before .before .before .before .before .before .before .before .before .read-file2 .ensures) (c .before .before .before .before .before .before .b2 .given .1)))
+    rw (no-left (s .profile) (s .archive .now) (s .left .now) (s .right .now) (o .tree) (o .read) _ _ (not-taken _ _ _ _ _ _ _ (c .before .before .before .before .before .before .before .before .before .before .before .before .before .before .before .read-file2 .ensures) (c .before .before .before .before .before .before .b2 .given .1)))
     (puts-within 1048576 (omega arith) (c .before .before .put-refused2 .ensures))
 
 returns-4 : tie.Need-returns-4
 returns-4 c =
     let s = c .before .before .before .before .before .before .before .before .before .before .before .before .before .before .before .before .before .before .before .before .before .args in
-    rw (no-archive (s .archive .now) (s .left .now) (s .right .now) _ _ (not-taken _ _ _ _ _ _ (c .before .before .before .before .before .before .before .before .before .before .before .before .before .before .before .read-file .ensures) (c .before .before .before .before .before .before .a2 .given .1)))
+    rw (no-archive (s .profile) (s .archive .now) (s .left .now) (s .right .now) _ _ (not-taken _ _ _ _ _ _ _ (c .before .before .before .before .before .before .before .before .before .before .before .before .before .before .before .read-file .ensures) (c .before .before .before .before .before .before .a2 .given .1)))
     (puts-within 1048576 (omega arith) (c .before .before .put-refused3 .ensures))
 
 pub print-plan-spec : {M : Type 1} → statement M

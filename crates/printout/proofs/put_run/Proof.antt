@@ -21,7 +21,7 @@ rooms t =
 few : (c : tie.After-reconcile-plain) → 3 * c .reconcile-plain .result .answer .list ≤ 1146
 few c =
     let s = c .before .before .before .before .before .before .before .before .before in
-    entries-few (s .args .o .now) (s .args .l .now) (s .args .r .now) (s .pre .0) (s .pre .1) (s .pre .2) _ _ (rooms _) _ (c .reconcile-plain .ensures)
+    entries-few (s .args .profile) (s .args .o .now) (s .args .l .now) (s .args .r .now) (s .pre .0) (s .pre .1) (s .pre .2) _ _ (rooms _) _ (c .reconcile-plain .ensures)
 
 long : (c : tie.After-reconcile-plain) → length (c .reconcile-plain .last .1 .1 .1 .1 .1 .1 .0) ≡ 1146
 long c = c .reconcile-plain .kept .1 .1 .1 .1 .1 .1 .0 ∙ length-replicate {A = ℕ} 1146 0
@@ -41,14 +41,14 @@ put-plan-requires : tie.Need-put-plan-requires
 put-plan-requires c κs =
     let n = few (c .before .before .before .before .before .before .before .before) in
     let s = c .before .before .before .before .before .before .before .before .before .before .before .before .before .before .before .before .before in
-    let a = short (s .args .l .now) (s .pre .1) in
-    let b = short (s .args .r .now) (s .pre .2) in
+    let a = short (s .args .profile) (s .args .l .now) (s .pre .1) in
+    let b = short (s .args .profile) (s .args .r .now) (s .pre .2) in
     (simp length-take (omega arith), omega arith, omega arith, omega arith)
 
 returns : tie.Need-returns
 returns c =
     let s = c .before .before .before .before .before .before .before .before .before .before .before .before .before .before .before .before .before .before .before .before in
-    put-plan (s .args .o .now) (s .args .l .now) (s .args .r .now) (s .pre .0) (s .pre .1) (s .pre .2) _ _ (rooms _) _ (c .before .before .before .before .before .before .before .before .before .before .before .reconcile-plain .ensures) _ _ _ _
+    put-plan (s .args .profile) (s .args .o .now) (s .args .l .now) (s .args .r .now) (s .pre .0) (s .pre .1) (s .pre .2) _ _ (rooms _) _ (c .before .before .before .before .before .before .before .before .before .before .before .reconcile-plain .ensures) _ _ _ _
     (small-all (s .args .l .now) (λ i. omega (arith, c .before .before .before .before .before .before .before .before .before .before .before .before .before .before .before .before .before .shared-slice-known2 .given i))) (small-all (s .args .r .now) (λ i. omega (arith, c .before .before .before .before .before .before .before .before .before .before .before .before .before .before .before .before .shared-slice-known3 .given i))) (c .before .before .put-plan .ensures)
 
 pub put-run-spec : {M : Type 1} → statement M

@@ -7,12 +7,12 @@ use Rattle.printout.proofs.read_file.Tie as tie
 
 returns : tie.Need-returns
 returns c =
-    too-long (c .before .before .before .args .text .now) _ (let h = c .if1 .taken in omega arith)
+    too-long (c .before .before .before .args .profile) (c .before .before .before .args .text .now) _ (let h = c .if1 .taken in omega arith)
 
 returns-2 : tie.Need-returns-2
 returns-2 c =
     let s = c .before .before .before .before .before .before .before in
-    as-read (s .args .text .now) (s .args .table .now) _ _ (let h = c .before .before .before .before .if1 .left in omega arith) (s .pre) (c .before .before .read .ensures)
+    as-read (s .args .profile) (s .args .text .now) (s .args .table .now) _ _ (let h = c .before .before .before .before .if1 .left in omega arith) (s .pre) (c .before .before .read .ensures)
 
 pub read-file-spec : {M : Type 1} → statement M
 read-file-spec = tie.close (tie.spec returns (λ c κs. search needs) (λ c. search needs) returns-2)

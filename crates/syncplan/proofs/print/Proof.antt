@@ -1,9 +1,9 @@
--- `main` meets its contract: what is printed is within the array.
+-- `print` meets its contract: what is printed is within the array.
 use lib.ListN.{length-take}
 use native.Mathlib.Omega.{arith}
 use borrow.Author.Needs.{needs}
-use Rattle.syncplan.proofs.main.Statement.{statement}
-use Rattle.syncplan.proofs.main.Tie as tie
+use Rattle.syncplan.proofs.print.Statement.{statement}
+use Rattle.syncplan.proofs.print.Tie as tie
 
 slice-aggregate-write-all : tie.Need-slice-aggregate-write-all
 slice-aggregate-write-all c =
@@ -12,8 +12,8 @@ slice-aggregate-write-all c =
     let p = c .before .before .before .before .before .before .before .page .ensures in
     simp length-take (omega arith)
 
-pub main-spec : {M : Type 1} → statement M
-main-spec =
+pub print-spec : {M : Type 1} → statement M
+print-spec =
     tie.close
     (tie.spec
     (λ c. search needs)
