@@ -1,4 +1,5 @@
-// What one line of a listing does to the reader's state and to the table.
+// What one line of a listing does to the reader's state and to the table, in a profile.
+use tree::Profile;
 ghost use mathlib.Core.Path.{_≡_};
 ghost use Prim.Native.Nat.{_-_, _≤_, _<_};
 ghost use lib.ListN.{length, take, drop};
@@ -157,9 +158,16 @@ fn root_line(line: &[u8], from: usize, room: usize, s: reader::Reader) -> reader
 }
 
 // Any other entry, whose name stands from a to e.
-fn entry_line(line: &[u8], a: usize, e: usize, t: &mut [u32], s: reader::Reader) -> reader::Went
-    requires { ⌜ (a ≤ e) × (e ≤ length (now line)) × Ready (now t) s ⌝ }
-    ensures { λ r. ⌜ Takes (λ most. entryLine most (take (e - a) (drop a (now (line .entry)))) (words (drop e (now (line .entry))))) (now (t .entry)) s (now (t .exit)) r ⌝ }
+fn entry_line(
+    profile: Profile,
+    line: &[u8],
+    a: usize,
+    e: usize,
+    t: &mut [u32],
+    s: reader::Reader,
+) -> reader::Went
+    requires { ⌜ (a ≤ e) × (e ≤ length (now line)) × Ready profile (now t) s ⌝ }
+    ensures { λ r. ⌜ Takes profile (λ most. entryLine profile most (take (e - a) (drop a (now (line .entry)))) (words (drop e (now (line .entry))))) (now (t .entry)) s (now (t .exit)) r ⌝ }
 {
     if s.depth == 0 {
         return reader::Went {
@@ -176,7 +184,7 @@ fn entry_line(line: &[u8], a: usize, e: usize, t: &mut [u32], s: reader::Reader)
         }
         let name = n.words;
         let content = h.words;
-        return reader::put_row(t, s, name, content);
+        return reader::put_row(profile, t, s, name, content);
     }
     reader::Went {
         number: 8,
@@ -185,9 +193,16 @@ fn entry_line(line: &[u8], a: usize, e: usize, t: &mut [u32], s: reader::Reader)
 }
 
 // A line by its first word, from a to e.
-fn word_line(line: &[u8], a: usize, e: usize, t: &mut [u32], s: reader::Reader) -> reader::Went
-    requires { ⌜ (a < e) × (e ≤ length (now line)) × Ready (now t) s ⌝ }
-    ensures { λ r. ⌜ Takes (λ most. firstDoes most (take (e - a) (drop a (now (line .entry)))) (words (drop e (now (line .entry))))) (now (t .entry)) s (now (t .exit)) r ⌝ }
+fn word_line(
+    profile: Profile,
+    line: &[u8],
+    a: usize,
+    e: usize,
+    t: &mut [u32],
+    s: reader::Reader,
+) -> reader::Went
+    requires { ⌜ (a < e) × (e ≤ length (now line)) × Ready profile (now t) s ⌝ }
+    ensures { λ r. ⌜ Takes profile (λ most. firstDoes profile most (take (e - a) (drop a (now (line .entry)))) (words (drop e (now (line .entry))))) (now (t .entry)) s (now (t .exit)) r ⌝ }
 {
     if line[a] == 47 {
         return slash_line(line, a, e, s);
@@ -198,13 +213,13 @@ fn word_line(line: &[u8], a: usize, e: usize, t: &mut [u32], s: reader::Reader) 
     if scan::same_bytes(&line[a..e], b".") {
         return root_line(line, e, t.len(), s);
     }
-    entry_line(line, a, e, t, s)
+    entry_line(profile, line, a, e, t, s)
 }
 
 // A line: blank lines and comments are skipped, then 7 comes first.
-pub fn take_line(line: &[u8], t: &mut [u32], s: reader::Reader) -> reader::Went
-    requires { ⌜ Ready (now t) s ⌝ }
-    ensures { λ r. ⌜ Takes (λ most. lineDoes most (now (line .entry))) (now (t .entry)) s (now (t .exit)) r ⌝ }
+pub fn take_line(profile: Profile, line: &[u8], t: &mut [u32], s: reader::Reader) -> reader::Went
+    requires { ⌜ Ready profile (now t) s ⌝ }
+    ensures { λ r. ⌜ Takes profile (λ most. lineDoes profile most (now (line .entry))) (now (t .entry)) s (now (t .exit)) r ⌝ }
 {
     let a = scan::skip_blanks(line, 0);
     if line.len() <= a {
@@ -221,7 +236,7 @@ pub fn take_line(line: &[u8], t: &mut [u32], s: reader::Reader) -> reader::Went
     }
     if scan::all_text(line) {
         let e = scan::word_end(line, a);
-        return word_line(line, a, e, t, s);
+        return word_line(profile, line, a, e, t, s);
     }
     reader::Went {
         number: 7,

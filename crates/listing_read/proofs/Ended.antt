@@ -8,7 +8,8 @@ use lib.ListN.{length, getD, take-append-drop}
 use Prim.Native.Nat.{ℕ, zero, suc, _*_, _-_, _≤_, _<_}
 use borrow.Author.Tests.{le-leb, lt-leb}
 use Rattle.tree.specs.Forest.{Forest}
-use Rattle.tree.specs.Rules.{WellFormed}
+use Rattle.tree.specs.Rules.{NameRule, ContentRule, Within}
+use Rattle.tree.specs.declared.Profile.{Profile}
 use Rattle.row.specs.Buffer.{over}
 use Rattle.row.specs.Tree.{table}
 use Rattle.row.proofs.Tree.{length-table}
@@ -38,28 +39,28 @@ form-last (b ∷ bs) h n = rw (le-leb (length (b ∷ bs)) 65536 h, any-default (
 -- no row means no root
 module _ (s : Reader) where
   pub ends-rootless : s .count ≡ 0 → Ends s (Refused 12 0 0)
-  ends-rootless e = record { does = λ w t h. go w t h }
+  ends-rootless e = record { does = λ p w t h. go p w t h }
     where
-      go : (w : List ℕ) (t : State) → Reads w s t → Answers (Refused 12 0 0) (ended t) × (false ≡ isTaken (ended t))
-      go w (before d) h = (record { number-due = refl; side-due = refl; place-due = refl; accepted = refl }, refl)
-      go w (inside f p ds) h = let c = h .filled .rows in absurd (omega arith)
-      go w (closed f) h = let c = h .filled .rows in absurd (omega arith)
+      go : (p : Profile) (w : List ℕ) (t : State) → Reads p w s t → Answers (Refused 12 0 0) (ended t) × (false ≡ isTaken (ended t))
+      go p w (before d) h = (record { number-due = refl; side-due = refl; place-due = refl; accepted = refl }, refl)
+      go p w (inside f q ds) h = let c = h .filled .rows in absurd (omega arith)
+      go p w (closed f) h = let c = h .filled .rows in absurd (omega arith)
 
   pub ends-rooted : (s .count ≡ 0 → ⊥) → Ends s (Accepted (s .count))
-  ends-rooted e = record { does = λ w t h. go w t h }
+  ends-rooted e = record { does = λ p w t h. go p w t h }
     where
-      go : (w : List ℕ) (t : State) → Reads w s t → Answers (Accepted (s .count)) (ended t) × (true ≡ isTaken (ended t))
-      go w (before d) h = absurd (e (h .rows))
-      go w (inside f p ds) h = (record { number-due = refl; side-due = refl; place-due = h .filled .rows; accepted = refl }, refl)
-      go w (closed f) h = (record { number-due = refl; side-due = refl; place-due = h .filled .rows; accepted = refl }, refl)
+      go : (p : Profile) (w : List ℕ) (t : State) → Reads p w s t → Answers (Accepted (s .count)) (ended t) × (true ≡ isTaken (ended t))
+      go p w (before d) h = absurd (e (h .rows))
+      go p w (inside f q ds) h = (record { number-due = refl; side-due = refl; place-due = h .filled .rows; accepted = refl }, refl)
+      go p w (closed f) h = (record { number-due = refl; side-due = refl; place-due = h .filled .rows; accepted = refl }, refl)
 
-filled-table : (w : List ℕ) (count : ℕ) (f : Forest) → WellFormed f → Filled w count f → w ≡ over (zeroed (length w)) (table f)
+filled-table : (w : List ℕ) (count : ℕ) (f : Forest) → Within NameRule ContentRule 16 f → Filled w count f → w ≡ over (zeroed (length w)) (table f)
 unfolding over
 filled-table w count f g h =
     let l : length (table f) ≡ 20 * count = length-table f g ∙ rw (h .rows) in
     sym (take-append-drop (20 * count) w) ∙ rw (h .used, h .rest, l)
 
-pub table-end : (most : ℕ) (w : List ℕ) (s : Reader) (t : State) → GoodState most t → Reads w s t → w ≡ tableAfter (ended t) (length w)
-table-end most w s (before d) g h = h .empty
-table-end most w s (inside f p ds) g h = filled-table w (s .count) f (g .fit .good) (h .filled)
-table-end most w s (closed f) g h = filled-table w (s .count) f (g .good) (h .filled)
+pub table-end : (p : Profile) (most : ℕ) (w : List ℕ) (s : Reader) (t : State) → GoodState p most t → Reads p w s t → w ≡ tableAfter (ended t) (length w)
+table-end p most w s (before d) g h = h .empty
+table-end p most w s (inside f q ds) g h = filled-table w (s .count) f (g .fit .good .within) (h .filled)
+table-end p most w s (closed f) g h = filled-table w (s .count) f (g .good .within) (h .filled)

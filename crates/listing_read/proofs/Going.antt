@@ -6,6 +6,7 @@ use native.Mathlib.Omega.{arith}
 use lib.ListN.{length, take, drop}
 use Prim.Native.Nat.{ℕ, _+_, _-_, _<_, _≤_}
 use borrow.Author.Tests.{ne-eqb}
+use Rattle.tree.specs.declared.Profile.{Profile}
 use Rattle.rules.specs.declared.Answer.the-variants.{Refused}
 use Rattle.listing.specs.Lines.{lenIn, lines, linesFrom}
 use Rattle.listing.specs.declared.Mode.the-variants.{Lead}
@@ -24,21 +25,21 @@ use Rattle.lines.specs.Takes.{Takes}
 use Rattle.listing_read.specs.Contract.{RanLines}
 
 -- before the line that begins at byte i, which has that number
-pub record Going (text : List ℕ) (room : ℕ) (w : List ℕ) (s : Reader) (i line : ℕ) : Type 0 where
+pub record Going (p : Profile) (text : List ℕ) (room : ℕ) (w : List ℕ) (s : Reader) (i line : ℕ) : Type 0 where
   pub long : length w ≡ room
   pub state : State
-  pub reads : Reads w s state
-  pub good : GoodState (mostRows room) state
-  pub same : run (mostRows room) (lines text) (before none) ≡ run (mostRows room) (linesFrom line 0 (drop i text)) state
+  pub reads : Reads p w s state
+  pub good : GoodState p (mostRows room) state
+  pub same : run p (mostRows room) (lines text) (before none) ≡ run p (mostRows room) (linesFrom line 0 (drop i text)) state
 
-pub going-first : (text w : List ℕ) (s : Reader) → w ≡ zeroed (length w) → Fresh s → Going text (length w) w s 0 1
-going-first text w s e f = record { long = refl; state = before none; reads = rw e (f .does (length w)); good = tt; same = refl }
+pub going-first : (p : Profile) (text w : List ℕ) (s : Reader) → w ≡ zeroed (length w) → Fresh s → Going p text (length w) w s 0 1
+going-first p text w s e f = record { long = refl; state = before none; reads = rw e (f .does p (length w)); good = tt; same = refl }
 
-module _ {text : List ℕ} {room : ℕ} {w : List ℕ} {s : Reader} {i line : ℕ} (g : Going text room w s i line) where
-  pub going-ready : Ready w s
+module _ {p : Profile} {text : List ℕ} {room : ℕ} {w : List ℕ} {s : Reader} {i line : ℕ} (g : Going p text room w s i line) where
+  pub going-ready : Ready p w s
   going-ready = record { state = g .state; reads = g .reads; good = rw (g .long) (g .good) }
 
-  pub going-end : length text ≤ i → run (mostRows room) (lines text) (before none) ≡ ended (g .state)
+  pub going-end : length text ≤ i → run p (mostRows room) (lines text) (before none) ≡ ended (g .state)
   unfolding run
   going-end h = g .same ∙ rw (lines-none line text i h)
 
@@ -48,35 +49,35 @@ module _ {text : List ℕ} {room : ℕ} {w : List ℕ} {s : Reader} {i line : �
     part = take (e - i) (drop i text)
 
     abbrev step : Step
-    step = lineDoes (mostRows room) part (g .state)
+    step = lineDoes p (mostRows room) part (g .state)
 
-    turn : run (mostRows room) (lines text) (before none)
-        ≡ onStep step line (λ t. run (mostRows room) (linesFrom (line + lineEnds part) 0 (drop e text)) t)
+    turn : run p (mostRows room) (lines text) (before none)
+        ≡ onStep step line (λ t. run p (mostRows room) (linesFrom (line + lineEnds part) 0 (drop e text)) t)
     unfolding run
     turn = g .same ∙ rw (lines-next line text i e at more .parted)
 
     -- what the line did
-    module _ (after : List ℕ) (r : Went) (takes : Takes (λ most. lineDoes most part) w s after r) where
-      did : Did step after r
+    module _ (after : List ℕ) (r : Went) (takes : Takes p (λ most. lineDoes p most part) w s after r) where
+      did : Did p step after r
       did = rw (g .long) at (takes .does (g .state) (rw (g .long) (g .good)) (g .reads))
 
-      kept : GoodStep (mostRows room) step
-      kept = good-words (mostRows room) (isText part) (words part) (g .state) (g .good)
+      kept : GoodStep p (mostRows room) step
+      kept = good-words p (mostRows room) (isText part) (words part) (g .state) (g .good)
 
-      pub stopped : (r .number ≡ 0 → ⊥) → run (mostRows room) (lines text) (before none) ≡ refused (r .number) line
+      pub stopped : (r .number ≡ 0 → ⊥) → run p (mostRows room) (lines text) (before none) ≡ refused (r .number) line
       stopped h = turn ∙ go step did
         where
-          go : (x : Step) → Did x after r → onStep x line (λ t. run (mostRows room) (linesFrom (line + lineEnds part) 0 (drop e text)) t) ≡ refused (r .number) line
+          go : (x : Step) → Did p x after r → onStep x line (λ t. run p (mostRows room) (linesFrom (line + lineEnds part) 0 (drop e text)) t) ≡ refused (r .number) line
           go (stops n) d = rw (d .0)
           go (goes t) d = absurd (h (d .0))
 
-      pub goes-on : r .number ≡ 0 → length after ≡ length w → Going text room after (r .state) e (line + lineEnds part)
+      pub goes-on : r .number ≡ 0 → length after ≡ length w → Going p text room after (r .state) e (line + lineEnds part)
       goes-on h l = go step did kept turn
         where
-          go : (x : Step) → Did x after r → GoodStep (mostRows room) x
-              → run (mostRows room) (lines text) (before none) ≡ onStep x line (λ t. run (mostRows room) (linesFrom (line + lineEnds part) 0 (drop e text)) t)
-              → Going text room after (r .state) e (line + lineEnds part)
-          go (stops n) d k q = let z = d .0 in let p = d .1 in absurd (omega arith)
+          go : (x : Step) → Did p x after r → GoodStep p (mostRows room) x
+              → run p (mostRows room) (lines text) (before none) ≡ onStep x line (λ t. run p (mostRows room) (linesFrom (line + lineEnds part) 0 (drop e text)) t)
+              → Going p text room after (r .state) e (line + lineEnds part)
+          go (stops n) d k q = let z = d .0 in let u = d .1 in absurd (omega arith)
           go (goes t) d k q = record { long = l ∙ g .long; state = t; reads = d .1; good = k; same = q }
 
 -- a refused line's answer

@@ -2,9 +2,10 @@
 use mathlib.Core.Path.{_≡_, sym, _∙_}
 use mathlib.Core.List.{List}
 use Prim.Native.Nat.{ℕ}
+use Rattle.tree.specs.declared.Profile.{Profile}
 use Rattle.rules.specs.declared.Answer.{Answer}
 use Rattle.rules.proofs.Says.{says-one}
 use Rattle.listing_read.specs.Contract.{ReadContract}
 
-pub read-one : (t b : List ℕ) (x y : Answer) (v w : List ℕ) → ReadContract t b x v → ReadContract t b y w → (x ≡ y) × (v ≡ w)
-read-one t b x y v w A B = (says-one x y (A .says) (B .says), A .table ∙ sym (B .table))
+pub read-one : (p : Profile) (t b : List ℕ) (x y : Answer) (v w : List ℕ) → ReadContract p t b x v → ReadContract p t b y w → (x ≡ y) × (v ≡ w)
+read-one p t b x y v w A B = (says-one x y (A .says) (B .says), A .table ∙ sym (B .table))

@@ -1,9 +1,11 @@
--- What reading a listing promises: the answer, and what the lent table holds afterwards, whatever the text and the room.
+-- What reading a listing in a profile promises: the answer, and what the lent table holds afterwards, whatever the text and
+-- the room.
 use mathlib.Core.Path.{_≡_}
 use mathlib.Core.List.{List}
 use mathlib.Core.Bool.{Bool, true, false}
 use lib.ListN.{length}
 use Prim.Native.Nat.{ℕ}
+use Rattle.tree.specs.declared.Profile.{Profile}
 use Rattle.row.specs.Buffer.{over}
 use Rattle.row.specs.Tree.{table}
 use Rattle.rules.specs.declared.Answer.{Answer}
@@ -27,10 +29,10 @@ tableAfter (refused n line) room = zeroed room
 tableAfter (accepted f) room = over (zeroed room) (table f)
 
 -- the words lent, before, and after
-pub record ReadContract (t before : List ℕ) (answer : Answer) (after : List ℕ) : Type 0 where
-  pub says : Answers answer (reading t (length before))
-  pub kind : isAccepted answer ≡ isTaken (reading t (length before))
-  pub table : after ≡ tableAfter (reading t (length before)) (length before)
+pub record ReadContract (p : Profile) (t before : List ℕ) (answer : Answer) (after : List ℕ) : Type 0 where
+  pub says : Answers answer (reading p t (length before))
+  pub kind : isAccepted answer ≡ isTaken (reading p t (length before))
+  pub table : after ≡ tableAfter (reading p t (length before)) (length before)
 
 -- the lines of a text read into a table of zeros, which a refusal leaves as it comes
 pub record RanLines (o : Outcome) (room : ℕ) (answer : Answer) (after : List ℕ) : Type 0 where
@@ -40,4 +42,4 @@ pub record RanLines (o : Outcome) (room : ℕ) (answer : Answer) (after : List �
 
 -- what is due at the end of a text, whatever state the struct stands for
 pub record Ends (s : Reader) (answer : Answer) : Type 0 where
-  pub does : (w : List ℕ) (t : State) → Reads w s t → Answers answer (ended t) × (isAccepted answer ≡ isTaken (ended t))
+  pub does : (p : Profile) (w : List ℕ) (t : State) → Reads p w s t → Answers answer (ended t) × (isAccepted answer ≡ isTaken (ended t))

@@ -1,4 +1,5 @@
-// Reading an mtree listing into a table.
+// Reading an mtree listing into a table, in a profile.
+use tree::Profile;
 ghost use mathlib.Core.Path.{_≡_};
 ghost use lib.ListN.{length};
 ghost use Rattle.listing.specs.Lines.{lines};
@@ -47,16 +48,16 @@ fn answer_at_end(s: reader::Reader) -> rules::Answer
 }
 
 // The lines of a text, up to the first faulty one, into a table of zeros.
-fn read_lines(text: &[u8], t: &mut [u32]) -> rules::Answer
+fn read_lines(profile: Profile, text: &[u8], t: &mut [u32]) -> rules::Answer
     requires { ⌜ now t ≡ zeroed (length (now t)) ⌝ }
-    ensures { λ r. ⌜ RanLines (run (mostRows (length (now (t .entry)))) (lines (now (text .entry))) (before none)) (length (now (t .entry))) r (now (t .exit)) ⌝ }
+    ensures { λ r. ⌜ RanLines (run profile (mostRows (length (now (t .entry)))) (lines (now (text .entry))) (before none)) (length (now (t .entry))) r (now (t .exit)) ⌝ }
 {
     let mut s = reader::fresh();
     let mut i: usize = 0;
     let mut line: usize = 1;
     while i < text.len() {
         let e = scan::line_end(text, i);
-        let went = lines::take_line(&text[i..e], t, s);
+        let went = lines::take_line(profile, &text[i..e], t, s);
         let number = went.number;
         if number != 0 {
             return rules::Answer::Refused {
@@ -75,12 +76,12 @@ fn read_lines(text: &[u8], t: &mut [u32]) -> rules::Answer
 
 // Reads a listing into the lent words, which are zeroed first and after a refusal: 6, the first faulty line with its
 // number, then 12; side 0; or the rows read.
-pub fn read(text: &[u8], table: &mut [u32]) -> rules::Answer
-    ensures { λ r. ⌜ ReadContract (now (text .entry)) (now (table .entry)) r (now (table .exit)) ⌝ }
+pub fn read(profile: Profile, text: &[u8], table: &mut [u32]) -> rules::Answer
+    ensures { λ r. ⌜ ReadContract profile (now (text .entry)) (now (table .entry)) r (now (table .exit)) ⌝ }
 {
     zero(table);
     if has_form(text) {
-        let answer = read_lines(text, table);
+        let answer = read_lines(profile, text, table);
         match answer {
             rules::Answer::Accepted { place } => {
                 return rules::Answer::Accepted { place };

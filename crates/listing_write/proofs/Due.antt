@@ -37,7 +37,7 @@ module _ (s d : List ℕ) where
       go false = refl
 
 module _ (p : Profile) (w d : List ℕ) where
-  numbered-due : Numbered (answerDue p w (length d))
+  pub numbered-due : Numbered (answerDue p w (length d))
   unfolding answerDue All
   numbered-due = numbered-first (checkDue p w ∷ []) (textDue (textOf (treeOf w)) (length d)) (numbered-check p w, tt) (numbered-text (textOf (treeOf w)) d)
 

@@ -7,6 +7,9 @@ use lib.Seq.{take-set-lt, take-take, getD-take, getD-set-same, take-at, take-len
 use Prim.Native.Nat.{ℕ, zero, suc, _+_, _-_, _≤_, _<_}
 use Rattle.tree.specs.Name.{Name}
 use Rattle.tree.specs.Forest.{TreePath, Forest, Forest.end, Node, Node.absent, Node.file, Node.folder, at, kids, size, find}
+use Rattle.tree.specs.Key.{key, fold, foldPath}
+use Rattle.tree.specs.declared.Profile.{Profile}
+use Rattle.tree.proofs.Spots.{path-append}
 use Rattle.row.specs.Table.{flat}
 use Rattle.row.specs.Tree.{nodeRows, rowsOf, table}
 use Rattle.stands.specs.Around.{rowIn}
@@ -32,47 +35,50 @@ map-take f zero (x ∷ l) = refl
 map-take f (suc n) [] = refl
 map-take f (suc n) (x ∷ l) = ap (λ (y : List _). f x ∷ y) (map-take f n l)
 
+pub all-keys : (p : Profile) (q : TreePath) → take (length q) (foldPath p q) ≡ foldPath p q
+all-keys p q = ap (λ (n : ℕ). take n (foldPath p q)) (sym (length-map q (key p))) ∙ take-length (foldPath p q)
+
 set-wide : (s r : Reader) (k v : ℕ) → r .defaults ≡ set (s .defaults) k v → r .folders ≡ s .folders → Wide s → Wide r
 set-wide s r k v a b h = record { defaults = rw a (length-set (s .defaults) k v ∙ h .defaults); folders = rw b (h .folders) }
 
 -- depth and defaults of the open folders
-module _ (w : List ℕ) (s : Reader) (f : Forest) (p : TreePath) (ds : List Said) (deep : length p ≤ 16) (h : Open w s f p ds) where
-  pub each : length ds ≡ suc (length p)
+module _ (p : Profile) (w : List ℕ) (s : Reader) (f : Forest) (q : TreePath) (ds : List Said) (deep : length q ≤ 16) (h : Open p w s f q ds) where
+  pub each : length ds ≡ suc (length q)
   each =
       rw (h .defaults)
-      (length-map (take (suc (length p)) (s .defaults)) said ∙ length-take-le (suc (length p)) (s .defaults) (let e = h .wide .defaults in omega arith))
+      (length-map (take (suc (length q)) (s .defaults)) said ∙ length-take-le (suc (length q)) (s .defaults) (let e = h .wide .defaults in omega arith))
 
   pub in-folder : inForce ds ≡ said (getD (s .defaults) (s .depth - 1) 0)
   unfolding said
   in-folder =
-      let k : length ds - 1 ≡ length p = let e = each in omega arith in
-      let d : s .depth - 1 ≡ length p = let e = h .deep in omega arith in
+      let k : length ds - 1 ≡ length q = let e = each in omega arith in
+      let d : s .depth - 1 ≡ length q = let e = h .deep in omega arith in
       rw (k, d, h .defaults)
-      (List·getD-map said (take (suc (length p)) (s .defaults)) (length p) 0 ∙ ap said (getD-take (suc (length p)) (s .defaults) (length p) 0 (omega arith)))
+      (List·getD-map said (take (suc (length q)) (s .defaults)) (length q) 0 ∙ ap said (getD-take (suc (length q)) (s .defaults) (length q) 0 (omega arith)))
 
   set-folder : (v : ℕ) (r : Reader) → r .defaults ≡ set (s .defaults) (s .depth - 1) v → r .folders ≡ s .folders
-      → r .depth ≡ s .depth → r .last ≡ s .last → r .count ≡ s .count → Open w r f p (set ds (length ds - 1) (said v))
+      → r .depth ≡ s .depth → r .last ≡ s .last → r .count ≡ s .count → Open p w r f q (set ds (length ds - 1) (said v))
   set-folder v r a b c d e =
-      let k : length ds - 1 ≡ length p = let e = each in omega arith in
-      let j : s .depth - 1 ≡ length p = let e = h .deep in omega arith in
+      let k : length ds - 1 ≡ length q = let e = each in omega arith in
+      let j : s .depth - 1 ≡ length q = let e = h .deep in omega arith in
       record {
         wide = set-wide s r _ v a b (h .wide);
         filled = rw e (h .filled);
         deep = c ∙ h .deep;
-        defaults = rw (k, a, j, h .defaults, take-set-lt (suc (length p)) (s .defaults) (length p) v (omega arith))
-            (sym (map-set said (take (suc (length p)) (s .defaults)) (length p) v));
-        folders = λ i q. rw b (h .folders i q);
+        defaults = rw (k, a, j, h .defaults, take-set-lt (suc (length q)) (s .defaults) (length q) v (omega arith))
+            (sym (map-set said (take (suc (length q)) (s .defaults)) (length q) v));
+        folders = λ i u. rw b (h .folders i u);
         last = rw d (h .last);
       }
 
-pub in-force : (most : ℕ) (w : List ℕ) (s : Reader) (t : State) → GoodState most t → Reads w s t → defaultIn t (said (getD (s .defaults) (s .depth - 1) 0))
-in-force most w s (before d) g h = h .default ∙ rw (h .shut)
-in-force most w s (inside f p ds) g h = in-folder w s f p ds (g .deep) h
-in-force most w s (closed f) g h = tt
+pub in-force : (p : Profile) (most : ℕ) (w : List ℕ) (s : Reader) (t : State) → GoodState p most t → Reads p w s t → defaultIn t (said (getD (s .defaults) (s .depth - 1) 0))
+in-force p most w s (before d) g h = h .default ∙ rw (h .shut)
+in-force p most w s (inside f q ds) g h = in-folder p w s f q ds (g .deep) h
+in-force p most w s (closed f) g h = tt
 
-pub set-default : (most : ℕ) (w : List ℕ) (s : Reader) (v : ℕ) (r : Reader) (t : State) → r .defaults ≡ set (s .defaults) (s .depth - 1) v → r .folders ≡ s .folders
-    → r .depth ≡ s .depth → r .last ≡ s .last → r .count ≡ s .count → GoodState most t → Reads w s t → Reads w r (withDefault (said v) t)
-set-default most w s v r (before x) a b c d e g h =
+pub set-default : (p : Profile) (most : ℕ) (w : List ℕ) (s : Reader) (v : ℕ) (r : Reader) (t : State) → r .defaults ≡ set (s .defaults) (s .depth - 1) v → r .folders ≡ s .folders
+    → r .depth ≡ s .depth → r .last ≡ s .last → r .count ≡ s .count → GoodState p most t → Reads p w s t → Reads p w r (withDefault (said v) t)
+set-default p most w s v r (before x) a b c d e g h =
     record {
       wide = set-wide s r _ v a b (h .wide);
       rows = e ∙ h .rows;
@@ -80,12 +86,12 @@ set-default most w s v r (before x) a b c d e g h =
       default = rw (a, h .shut) (ap said (sym (getD-set-same (s .defaults) 0 v 0 (let l = h .wide .defaults in omega arith))));
       empty = h .empty;
     }
-set-default most w s v r (inside f p ds) a b c d e g h = set-folder w s f p ds (g .deep) h v r a b c d e
-set-default most w s v r (closed f) a b c d e g h = record { wide = set-wide s r _ v a b (h .wide); filled = rw e (h .filled); shut = c ∙ h .shut }
+set-default p most w s v r (inside f q ds) a b c d e g h = set-folder p w s f q ds (g .deep) h v r a b c d e
+set-default p most w s v r (closed f) a b c d e g h = record { wide = set-wide s r _ v a b (h .wide); filled = rw e (h .filled); shut = c ∙ h .shut }
 
-pub fresh-reads : (n : ℕ) (r : Reader) → r .count ≡ 0 → r .depth ≡ 0 → r .defaults ≡ replicate 17 0 → r .folders ≡ replicate 17 0 → Reads (zeroed n) r (before none)
+pub fresh-reads : (p : Profile) (n : ℕ) (r : Reader) → r .count ≡ 0 → r .depth ≡ 0 → r .defaults ≡ replicate 17 0 → r .folders ≡ replicate 17 0 → Reads p (zeroed n) r (before none)
 unfolding said
-fresh-reads n r a b c d = record { wide = record { defaults = rw c; folders = rw d }; rows = a; shut = b; default = rw c; empty = rw (length-replicate {A = ℕ} n 0) }
+fresh-reads p n r a b c d = record { wide = record { defaults = rw c; folders = rw d }; rows = a; shut = b; default = rw c; empty = rw (length-replicate {A = ℕ} n 0) }
 
 -- the root's row is all zero
 first-zeros : (n : ℕ) → 20 ≤ n → take 20 (zeroed n) ≡ zeroed 20
@@ -102,10 +108,10 @@ first-place [] h = absurd (omega arith)
 first-place (x ∷ []) h = refl
 first-place (x ∷ y ∷ l) h = refl
 
-pub root-opens : (w : List ℕ) (s : Reader) (d : Said) (r : Reader) → 20 ≤ length w → r .defaults ≡ s .defaults → r .folders ≡ set (s .folders) 0 0 → r .depth ≡ 1 → r .count ≡ 1
-    → r .last ≡ 0 → Waits w s d → Open w r end [] (d ∷ [])
-unfolding rowIn at
-root-opens w s d r g a z b c l h = record {
+pub root-opens : (p : Profile) (w : List ℕ) (s : Reader) (d : Said) (r : Reader) → 20 ≤ length w → r .defaults ≡ s .defaults → r .folders ≡ set (s .folders) 0 0 → r .depth ≡ 1 → r .count ≡ 1
+    → r .last ≡ 0 → Waits w s d → Open p w r end [] (d ∷ [])
+unfolding rowIn at fold
+root-opens p w s d r g a z b c l h = record {
   wide = record { defaults = rw a (h .wide .defaults); folders = rw z (length-set (s .folders) 0 0 ∙ h .wide .folders) };
   filled = rw c (root-filled w g (h .empty));
   deep = b;
@@ -125,30 +131,36 @@ last-closed f q m h = go (at (folder f) q) refl (folder-above q m (folder f) (th
     go (folder k) e u =
         rw (row-entry m k q (folder f) e) (entry m (there-of (find m k) (rw (at-entry m k q (folder f) e) at h)))
 
-module _ (most : ℕ) (w : List ℕ) (s : Reader) (f : Forest) (p : TreePath) (ds : List Said) (g : Inside most f p ds) (h : Open w s f p ds) (more : 0 < length p) where
+module _ (p : Profile) (most : ℕ) (w : List ℕ) (s : Reader) (f : Forest) (q : TreePath) (ds : List Said) (g : Inside p most f q ds) (h : Open p w s f q ds) (more : 0 < length q) where
+  -- the path of keys without its last
+  front-keys : foldPath p (front q) ≡ take (length q - 1) (foldPath p q)
+  front-keys = map-take (key p) (length q - 1) q
+
+  last-keys : foldPath p q ≡ foldPath p (front q) ++ (key p (getD q (length q - 1) []) ∷ [])
+  last-keys = ap (foldPath p) (split-last q more) ∙ path-append p (front q) (getD q (length q - 1) [] ∷ [])
+
   closes : (r : Reader) → r .defaults ≡ s .defaults → r .folders ≡ s .folders → r .depth ≡ s .depth - 1
-      → r .last ≡ getD (s .folders) (s .depth - 1) 0 → r .count ≡ s .count → Open w r f (front p) (front ds)
+      → r .last ≡ getD (s .folders) (s .depth - 1) 0 → r .count ≡ s .count → Open p w r f (front q) (front ds)
   closes r a b c d e =
-      let k : length (front p) ≡ length p - 1 = length-take-le (length p - 1) p (omega arith) in
-      let q = h .deep in
-      let n : suc (length (front p)) ≡ length p = omega arith in
-      let j : length ds - 1 ≡ length p = let u = g .each in omega arith in
-      let v : s .depth - 1 ≡ length p = omega arith in
-      let z = split-last p more in
+      let k : length (front q) ≡ length q - 1 = length-take-le (length q - 1) q (omega arith) in
+      let u = h .deep in
+      let n : suc (length (front q)) ≡ length q = omega arith in
+      let j : length ds - 1 ≡ length q = let u = g .each in omega arith in
+      let v : s .depth - 1 ≡ length q = omega arith in
       record {
         wide = record { defaults = rw a (h .wide .defaults); folders = rw b (h .wide .folders) };
         filled = rw e (h .filled);
         deep = c ∙ omega arith;
         defaults = rw (n, j, a, h .defaults)
-            (sym (map-take said (length p) (take (suc (length p)) (s .defaults))) ∙ rw (take-take (length p) (suc (length p)) (s .defaults) (omega arith)));
-        folders = λ i u. rw (b, take-take i (length p - 1) p (omega arith)) (h .folders i (omega arith));
-        last = rw (d, v, h .folders (length p) (omega arith), take-length p)
-            (rw (← z) at (last-closed f (front p) (getD p (length p - 1) []) (rw z at (g .here))));
+            (sym (map-take said (length q) (take (suc (length q)) (s .defaults))) ∙ rw (take-take (length q) (suc (length q)) (s .defaults) (omega arith)));
+        folders = λ i u. rw (b, front-keys, take-take i (length q - 1) (foldPath p q) (omega arith)) (h .folders i (omega arith));
+        last = rw (d, v, h .folders (length q) (omega arith), all-keys p q)
+            (rw (← last-keys) at (last-closed (fold p f) (foldPath p (front q)) (key p (getD q (length q - 1) [])) (rw last-keys at (g .here))));
       }
 
-pub leaves : (most : ℕ) (w : List ℕ) (s r : Reader) (f : Forest) (p : TreePath) (ds : List Said) → r .defaults ≡ s .defaults → r .folders ≡ s .folders
-    → r .depth ≡ s .depth - 1 → r .last ≡ getD (s .folders) (s .depth - 1) 0 → r .count ≡ s .count → Inside most f p ds → Open w s f p ds → Reads w r (close f p ds)
-leaves most w s r f [] ds a b c d e g h =
-    let q = h .deep in
+pub leaves : (p : Profile) (most : ℕ) (w : List ℕ) (s r : Reader) (f : Forest) (q : TreePath) (ds : List Said) → r .defaults ≡ s .defaults → r .folders ≡ s .folders
+    → r .depth ≡ s .depth - 1 → r .last ≡ getD (s .folders) (s .depth - 1) 0 → r .count ≡ s .count → Inside p most f q ds → Open p w s f q ds → Reads p w r (close f q ds)
+leaves p most w s r f [] ds a b c d e g h =
+    let u = h .deep in
     record { wide = record { defaults = rw a (h .wide .defaults); folders = rw b (h .wide .folders) }; filled = rw e (h .filled); shut = c ∙ omega arith }
-leaves most w s r f (n ∷ p) ds a b c d e g h = closes most w s f (n ∷ p) ds g h (omega arith) r a b c d e
+leaves p most w s r f (n ∷ q) ds a b c d e g h = closes p most w s f (n ∷ q) ds g h (omega arith) r a b c d e

@@ -1,4 +1,5 @@
--- What the reader's functions do: their answer stands for what the definitions make of the state.
+-- What the reader's functions do: their answer stands for what the definitions make of the state, in every profile, or in
+-- that of the call where an entry is matched.
 use mathlib.Core.Path.{_≡_}
 use mathlib.Core.List.{List, [], _∷_}
 use mathlib.Core.Bool.{cond}
@@ -8,6 +9,7 @@ use Prim.Native.Nat.{ℕ, _+_, _-_, _<_, _≤_}
 use Rattle.tree.specs.Name.{Name}
 use Rattle.tree.specs.Forest.{Content, TreePath, Forest, Forest.end, Node, Node.file, Node.folder}
 use Rattle.tree.specs.Rules.{ContentRule}
+use Rattle.tree.specs.declared.Profile.{Profile}
 use Rattle.listing.specs.Entries.{Said, Said.none}
 use Rattle.listing.specs.Reading.{State, State.before, State.inside, State.closed, Step, Step.stops, Step.goes, inForce, withDefault, close, placed, mostRows}
 use Rattle.listing.specs.Accepted.{Inside, GoodState}
@@ -16,34 +18,34 @@ use Rattle.reader.specs.declared.Went.{Went}
 use Rattle.reader.specs.State.{zeroed, said, Waits, Open, Reads}
 
 -- a line's fault has its number, which isn't 0; else struct and table stand for the state after it
-abbrev pub Did : Step → List ℕ → Went → Type 0
-Did (stops n) w r = (r .number ≡ n) × (0 < n)
-Did (goes t) w r = (r .number ≡ 0) × Reads w (r .state) t
+abbrev pub Did : Profile → Step → List ℕ → Went → Type 0
+Did p (stops n) w r = (r .number ≡ n) × (0 < n)
+Did p (goes t) w r = (r .number ≡ 0) × Reads p w (r .state) t
 
 -- at the start of any table of zeros
 pub record Fresh (r : Reader) : Type 0 where
-  pub does : (n : ℕ) → Reads (zeroed n) r (before none)
+  pub does : (p : Profile) (n : ℕ) → Reads p (zeroed n) r (before none)
 
 -- the default in force, before the root and inside it
 abbrev pub defaultIn : State → Said → Type 0
 defaultIn (before d) v = d ≡ v
-defaultIn (inside f p ds) v = inForce ds ≡ v
+defaultIn (inside f q ds) v = inForce ds ≡ v
 defaultIn (closed f) v = Unit {0}
 
 pub record InForce (s : Reader) (r : ℕ) : Type 0 where
-  pub does : (most : ℕ) (w : List ℕ) (t : State) → GoodState most t → Reads w s t → defaultIn t (said r)
+  pub does : (p : Profile) (most : ℕ) (w : List ℕ) (t : State) → GoodState p most t → Reads p w s t → defaultIn t (said r)
 
 -- the default set to v
 pub record Sets (s : Reader) (v : ℕ) (r : Reader) : Type 0 where
-  pub does : (most : ℕ) (w : List ℕ) (t : State) → GoodState most t → Reads w s t → Reads w r (withDefault (said v) t)
+  pub does : (p : Profile) (most : ℕ) (w : List ℕ) (t : State) → GoodState p most t → Reads p w s t → Reads p w r (withDefault (said v) t)
 
 -- the folder last opened closed
 pub record Leaves (s r : Reader) : Type 0 where
-  pub does : (most : ℕ) (w : List ℕ) (f : Forest) (p : TreePath) (ds : List Said) → Inside most f p ds → Open w s f p ds → Reads w r (close f p ds)
+  pub does : (p : Profile) (most : ℕ) (w : List ℕ) (f : Forest) (q : TreePath) (ds : List Said) → Inside p most f q ds → Open p w s f q ds → Reads p w r (close f q ds)
 
 -- the root opened, where the table has room for its row, which is all zero
 pub record Roots (s r : Reader) : Type 0 where
-  pub does : (w : List ℕ) (d : Said) → 20 ≤ length w → Waits w s d → Open w r end [] (d ∷ [])
+  pub does : (p : Profile) (w : List ℕ) (d : Said) → 20 ≤ length w → Waits w s d → Open p w r end [] (d ∷ [])
 
 -- what eleven words hold: a folder's are zero
 abbrev pub nodeOf : Content → Node
@@ -67,6 +69,6 @@ entered s i kind =
     (record { defaults = s .defaults; folders = s .folders; depth = s .depth; last = i; count = s .count + 1 })
 
 -- an entry of that name and content put into the folder last opened
-pub record Places (n : Name) (c : Content) (w : List ℕ) (s : Reader) (after : List ℕ) (r : Went) : Type 0 where
-  pub does : (f : Forest) (p : TreePath) (ds : List Said) → Inside (mostRows (length w)) f p ds → Open w s f p ds
-      → Did (placed (mostRows (length w)) n (nodeOf c) f p ds) after r
+pub record Places (p : Profile) (n : Name) (c : Content) (w : List ℕ) (s : Reader) (after : List ℕ) (r : Went) : Type 0 where
+  pub does : (f : Forest) (q : TreePath) (ds : List Said) → Inside p (mostRows (length w)) f q ds → Open p w s f q ds
+      → Did p (placed p (mostRows (length w)) n (nodeOf c) f q ds) after r

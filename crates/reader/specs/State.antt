@@ -1,16 +1,19 @@
--- How the reader's struct and the lent table stand for a state of reading.
+-- How the reader's struct and the lent table stand for a state of reading in a profile: the table's words are the tree's as it
+-- is spelled, and the struct's rows are found by key.
 use mathlib.Core.Path.{_≡_}
 use mathlib.Core.List.{List, map}
 use mathlib.Core.Bool.{cond}
 use lib.Dec.{eqb}
 use lib.ListN.{length, take, drop, getD, replicate}
 use Prim.Native.Nat.{ℕ, suc, _*_, _≤_}
-use Rattle.tree.specs.Forest.{TreePath, Forest, Node.folder, at, kids, size}
+use Rattle.tree.specs.Forest.{TreePath, Forest, Node.folder, kids, size}
+use Rattle.tree.specs.Key.{fold, foldPath}
+use Rattle.tree.specs.declared.Profile.{Profile}
 use Rattle.row.specs.Tree.{table}
 use Rattle.stands.specs.Around.{rowIn}
 use Rattle.slot.specs.Insert.{Last}
 use Rattle.listing.specs.Entries.{Said, Said.none, Said.isDir, Said.isFile}
-use Rattle.listing.specs.Reading.{State, State.before, State.inside, State.closed, mostRows}
+use Rattle.listing.specs.Reading.{State, State.before, State.inside, State.closed, atKey, mostRows}
 use Rattle.listing.specs.Accepted.{GoodState}
 use Rattle.reader.specs.declared.Reader.{Reader}
 
@@ -42,13 +45,13 @@ pub record Waits (w : List ℕ) (s : Reader) (d : Said) : Type 0 where
   pub empty : w ≡ zeroed (length w)
 
 -- inside it: the depth of an entry listed now is the number of open folders, and each has its default and its row
-pub record Open (w : List ℕ) (s : Reader) (f : Forest) (p : TreePath) (ds : List Said) : Type 0 where
+pub record Open (p : Profile) (w : List ℕ) (s : Reader) (f : Forest) (q : TreePath) (ds : List Said) : Type 0 where
   pub wide : Wide s
   pub filled : Filled w (s .count) f
-  pub deep : s .depth ≡ suc (length p)
-  pub defaults : ds ≡ map said (take (suc (length p)) (s .defaults))
-  pub folders : (k : ℕ) → k ≤ length p → getD (s .folders) k 0 ≡ rowIn (folder f) (take k p)
-  pub last : Last (rowIn (folder f) p) (kids (at (folder f) p)) (s .last)
+  pub deep : s .depth ≡ suc (length q)
+  pub defaults : ds ≡ map said (take (suc (length q)) (s .defaults))
+  pub folders : (k : ℕ) → k ≤ length q → getD (s .folders) k 0 ≡ rowIn (folder (fold p f)) (take k (foldPath p q))
+  pub last : Last (rowIn (folder (fold p f)) (foldPath p q)) (kids (atKey p f q)) (s .last)
 
 -- after it has closed
 pub record Over (w : List ℕ) (s : Reader) (f : Forest) : Type 0 where
@@ -57,13 +60,13 @@ pub record Over (w : List ℕ) (s : Reader) (f : Forest) : Type 0 where
   pub shut : s .depth ≡ 0
 
 -- struct and table stand for a state
-abbrev pub Reads : List ℕ → Reader → State → Type 0
-Reads w s (before d) = Waits w s d
-Reads w s (inside f p ds) = Open w s f p ds
-Reads w s (closed f) = Over w s f
+abbrev pub Reads : Profile → List ℕ → Reader → State → Type 0
+Reads p w s (before d) = Waits w s d
+Reads p w s (inside f q ds) = Open p w s f q ds
+Reads p w s (closed f) = Over w s f
 
 -- for a state that lines lead to
-pub record Ready (w : List ℕ) (s : Reader) : Type 0 where
+pub record Ready (p : Profile) (w : List ℕ) (s : Reader) : Type 0 where
   pub state : State
-  pub reads : Reads w s state
-  pub good : GoodState (mostRows (length w)) state
+  pub reads : Reads p w s state
+  pub good : GoodState p (mostRows (length w)) state

@@ -1,5 +1,6 @@
 // The reader's state: the default type of each open folder, the rows of those folders, the current depth; and a row put
 // into the folder last opened.
+use tree::Profile;
 ghost use mathlib.Core.Path.{_≡_};
 ghost use Prim.Native.Nat.{_+_, _-_, _*_, _≤_, _<_};
 ghost use lib.Dec.{ltb};
@@ -133,10 +134,10 @@ fn has_room(count: usize, words: usize) -> bool
     count < words / 20
 }
 
-// An entry put into the folder last opened: 14, 13, 3.
-pub fn put_row(t: &mut [u32], s: Reader, name: [u32; 8], c: [u32; 11]) -> Went
-    requires { ⌜ Ready (now t) s × (0 < s .depth) × IsContent c ⌝ }
-    ensures { λ r. ⌜ Places name c (now (t .entry)) s (now (t .exit)) r ⌝ }
+// An entry put into the folder last opened: 14, 13 by key, 3.
+pub fn put_row(profile: Profile, t: &mut [u32], s: Reader, name: [u32; 8], c: [u32; 11]) -> Went
+    requires { ⌜ Ready profile (now t) s × (0 < s .depth) × IsContent c ⌝ }
+    ensures { λ r. ⌜ Places profile name c (now (t .entry)) s (now (t .exit)) r ⌝ }
 {
     let depth = s.depth;
     if depth == 17 {
@@ -147,7 +148,7 @@ pub fn put_row(t: &mut [u32], s: Reader, name: [u32; 8], c: [u32; 11]) -> Went
     }
     let k = depth - 1;
     let end = 20 * s.count;
-    match slot::find_spot(&t[..end], s.folders[k], s.last, name) {
+    match slot::find_spot(profile, &t[..end], s.folders[k], s.last, name) {
         slot::Spot::Taken => Went {
             number: 13,
             state: s,

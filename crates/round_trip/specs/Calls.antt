@@ -1,10 +1,11 @@
--- The round trip over calls: a table that is written, and read from the bytes written, is the same table.
+-- The round trip over calls: a table that is written in a profile, and read in it from the bytes written, is the same table.
 use mathlib.Core.Path.{_≡_}
 use mathlib.Core.List.{List}
 use mathlib.Core.Bool.{true}
 use lib.ListN.{length, take}
 use Prim.Native.Nat.{ℕ, _/_, _≤_}
 use Rattle.tree.specs.Rules.{Words32}
+use Rattle.tree.specs.declared.Profile.{Profile}
 use Rattle.row.specs.Buffer.{over}
 use Rattle.rules.specs.declared.Answer.{Answer}
 use Rattle.rules.specs.declared.Answer.the-variants.{Accepted}
@@ -18,9 +19,10 @@ pub record Same (w b : List ℕ) (answer : Answer) (after : List ℕ) : Type 0 w
   pub rows : answer ≡ Accepted (length w / 20)
   pub table : after ≡ over (zeroed (length b)) w
 
--- whatever words of 32 bits are lent as the table w and accepted, whatever bytes d for its text, and words b enough for its rows
+-- in every profile, whatever words of 32 bits are lent as the table w and accepted, whatever bytes d for its text, and words b
+-- enough for its rows
 abbrev pub CallsRoundTrip : Type 0
 CallsRoundTrip =
-    (w d : List ℕ) (answer : Answer) (text : List ℕ) → Words32 w → WriteContract w d answer text → isAccepted answer ≡ true
-    → (b : List ℕ) (back : Answer) (after : List ℕ) → ReadContract (take (placeOf answer) text) b back after → length w ≤ length b
+    (p : Profile) (w d : List ℕ) (answer : Answer) (text : List ℕ) → Words32 w → WriteContract p w d answer text → isAccepted answer ≡ true
+    → (b : List ℕ) (back : Answer) (after : List ℕ) → ReadContract p (take (placeOf answer) text) b back after → length w ≤ length b
     → Same w b back after

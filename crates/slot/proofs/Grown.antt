@@ -1,29 +1,36 @@
 -- The table of a tree with an entry more: the row put in at its place.
-use mathlib.Core.Path.{_≡_, refl, sym, _∙_}
+use mathlib.Core.Path.{_≡_, refl, sym, ap, _∙_}
 use mathlib.Core.List.{List, [], _∷_, _++_, append-assoc, append-nil}
 use native.Mathlib.Omega.{arith}
-use native.Mathlib.Nat.{add-zero}
+use native.Mathlib.Nat.{zero-add}
 use lib.ListN.{length, take, drop, length-append, length-drop}
 use lib.Seq.{take-at, drop-at, take-take, length-take-le}
 use Prim.Native.Nat.{ℕ, suc, _+_, _*_, _-_, _≤_, Ordering, Ordering·lt, Ordering·eq, Ordering·gt}
 use Rattle.tree.specs.Name.{Name, cmp, byOrder}
-use Rattle.tree.specs.Forest.{Content, Forest, Forest.end, Forest.leaf, Forest.dir, Node, Node.absent, Node.file, Node.folder, Present, Sorted, TreePath, add, at, find, size}
-use Rattle.tree.specs.Put.{put, update}
+use Rattle.tree.specs.Forest.{Content, Forest, Forest.end, Forest.leaf, Forest.dir, Node, Node.absent, Node.file, Node.folder, Present, Sorted, TreePath, add, at, kids, size}
+use Rattle.tree.specs.Put.{update, Reaches}
+use Rattle.tree.specs.Rules.{NameRule, ContentRule, Within}
+use Rattle.tree.specs.declared.Profile.{Profile}
+use Rattle.tree.specs.Key.{key, fold, foldPath, FormedIn, putIn}
 use Rattle.row.specs.Table.{Row, flat}
-use Rattle.row.specs.Tree.{fileRow, folderRow, nodeRows, rowsOf}
+use Rattle.row.specs.Tree.{fileRow, folderRow, nodeRows, rowsOf, rootName, table}
 use Rattle.row.specs.Buffer.{written}
-use Rattle.find.specs.Entry.{place}
 use Rattle.stands.specs.Stands.{Holds}
-use Rattle.stands.specs.Around.{before, rowIn, nameOn, entryEnd}
+use Rattle.stands.specs.Around.{before, rowIn, nameOn}
 use Rattle.tree.proofs.Forest.{sorted-at}
 use Rattle.tree.proofs.Order.{cmp-refl}
 use Rattle.tree.proofs.Put.{find-update-same}
+use Rattle.tree.proofs.Spots.{path-append, putIn-folder}
 use Rattle.row.proofs.Table.{drop-take}
+use Rattle.row.proofs.Flat.{Whole, flat-append, length-flat}
+use Rattle.row.proofs.Tree.{whole-rowsOf}
+use Rattle.stands.proofs.Rows.{cut, whole-front}
 use Rattle.stands.proofs.Path.{leads, ruled-at}
-use Rattle.stands.proofs.Put.{put-entry, place-entry, end-entry, at-entry}
+use Rattle.stands.proofs.Put.{place-entry, at-entry}
 use Rattle.stands.proofs.Around.{before-add}
 use Rattle.slot.specs.Insert.{inserted, spotOf, Last, Last.entry}
 use Rattle.slot.proofs.Spots.{spotAt, spot-found}
+use Rattle.slot.proofs.Parted.{parted}
 
 -- what is in use, what is not, and the length of a table with a row put in
 module _ (w : List ℕ) (n a : ℕ) (r : Row) (h : a ≤ n) (g : n + 20 ≤ length w) (e : length r ≡ 20) where
@@ -66,21 +73,41 @@ pub folder-words : (d : ℕ) (n : Name) → flat (nodeRows d n (folder end)) ≡
 unfolding flat nodeRows rowsOf
 folder-words d n = append-nil (folderRow d n)
 
--- an entry called m more in the folder k that stands at the path q, where the first n words of w are in use
-module _ (q : TreePath) (m : Name) (k : Forest) (w : List ℕ) (n d : ℕ) (root : Name) (x : Node) (h : Holds (take n w) d root x) (e : at x q ≡ folder k) where
-  pub spot-entry : (last : ℕ) → Last (rowIn x q) k last → spotOf (take n w) (rowIn x q) last m ≡ spotAt (find m k) (place (take n w) (rowIn x q) m)
-  spot-entry last l =
-      spot-found (take n w) (rowIn x q) (d + length q) (nameOn root q) k (rw e at (leads q (take n w) d root x h (rw e tt) .stands))
-      (rw e at (ruled-at q x (h .ruled))) (rw e at (sorted-at q x (h .sorted))) m last l
+-- where an entry called m of the folder at the path q goes, in the words of a tree of keys
+pub spot-entry : (q : TreePath) (m : Name) (k : Forest) (w : List ℕ) (d : ℕ) (root : Name) (x : Node) → Holds w d root x → at x q ≡ folder k
+    → (last : ℕ) → Last (rowIn x q) k last → spotOf w (rowIn x q) last m ≡ spotAt (at x (q ++ (m ∷ []))) (rowIn x (q ++ (m ∷ [])))
+spot-entry q m k w d root x h e last l =
+    rw (at-entry m k q x e, ← place-entry q m k w d root x h e)
+    (spot-found w (rowIn x q) (d + length q) (nameOn root q) k (rw e at (leads q w d root x h (rw e tt) .stands))
+    (rw e at (ruled-at q x (h .ruled))) (rw e at (sorted-at q x (h .sorted))) m last l)
 
-  pub put-row : (y : Node) (r : Row) → find m k ≡ absent → flat (nodeRows (d + suc (length q)) m y) ≡ r → length r ≡ 20
-      → 20 * place (take n w) (rowIn x q) m ≤ n → n + 20 ≤ length w
-      → take (n + 20) (inserted w n (20 * place (take n w) (rowIn x q) m) r) ≡ flat (nodeRows d root (put (q ++ (m ∷ [])) y x))
-  put-row y r none is long low room =
-      let z : entryEnd (take n w) (rowIn x q) m ≡ place (take n w) (rowIn x q) m =
-      end-entry q m k (take n w) d root x h e ∙ rw (at-entry m k q x e, none, add-zero) (sym (place-entry q m k (take n w) d root x h e)) in
-      inserted-used w n (20 * place (take n w) (rowIn x q) m) r low room long
-      ∙ sym (put-entry q m k (take n w) d root x h e y ∙ rw (z, is))
+whole-tree : (f : Forest) → Within NameRule ContentRule 16 f → Whole (nodeRows 0 rootName (folder f))
+unfolding Whole nodeRows
+whole-tree f h = (refl, whole-rowsOf 16 1 f h)
+
+-- THE TABLE OF A TREE WITH AN ENTRY MORE, called m in the folder at the path q: its row at the place of its key
+module _ (p : Profile) (q : TreePath) (m : Name) (f : Forest) (y : Node) (w : List ℕ) (n : ℕ) (r : Row) where
+  abbrev keys : TreePath
+  keys = foldPath p q ++ (key p m ∷ [])
+
+  abbrev row : ℕ
+  row = rowIn (folder (fold p f)) keys
+
+  pub put-row : FormedIn p f → take n w ≡ table f → Reaches keys (folder (fold p f)) → at (folder (fold p f)) keys ≡ absent
+      → flat (nodeRows (suc (length q)) m y) ≡ r → length r ≡ 20 → 20 * row ≤ n → n + 20 ≤ length w
+      → take (n + 20) (inserted w n (20 * row) r) ≡ table (kids (putIn p (q ++ (m ∷ [])) y (folder f)))
+  unfolding table
+  put-row good used there none is long low room =
+      let k = path-append p q (m ∷ []) in
+      let h = parted p q m y 0 rootName (folder f) (good .sorted) (rw k there) (rw k none) in
+      let a = h .front in
+      let c = h .back in
+      let v : Whole (a ++ c) = rw (h .are) at (whole-tree f (good .within)) in
+      let i : length (flat a) ≡ 20 * row = length-flat a (whole-front a c v) ∙ rw (h .place, k) in
+      let z = cut (take n w) (flat a) [] (flat c) (20 * row) (20 * row) (used ∙ ap flat (h .are) ∙ flat-append a c) i (omega arith) in
+      let b = nodeRows (0 + suc (length q)) m y in
+      let g : flat (a ++ (b ++ c)) ≡ flat a ++ (r ++ flat c) = rw (flat-append a (b ++ c), flat-append b c, zero-add (suc (length q)), is) in
+      inserted-used w n (20 * row) r low room long ∙ rw (z .0, z .1) (sym g ∙ ap flat (sym (h .grown)) ∙ rw (putIn-folder p q m y f))
 
 -- an entry that has been put in is the last
 module _ (n : Name) (x : Node) (p : Present x) where

@@ -1,10 +1,13 @@
-// A row put into its sorted place of a table: where a name goes among a folder's entries, and the row put in there.
+// A row put into its sorted place of a table: where a name goes among a folder's entries, by key, and the row put in there.
+use tree::Profile;
 ghost use mathlib.Core.Path.{_≡_};
 ghost use Prim.Native.Nat.{_+_, _*_, _-_, _≤_};
 ghost use lib.ListN.{length, take, drop};
 ghost use Rattle.row.specs.Table.{rowAt, rows};
 ghost use Rattle.row.specs.Order.{ordered};
 ghost use Rattle.row.specs.Buffer.{written};
+ghost use Rattle.row.specs.Keyed.{keyedRow, keyed};
+ghost use Rattle.tree.specs.Key.{key};
 ghost use Rattle.slot.specs.Insert.{against as againstOf, startOf, spotIn, spotOf, Sits, inserted};
 
 // The row that an entry goes to, or that its name is taken.
@@ -14,9 +17,9 @@ pub enum Spot {
 }
 
 // How a name stands to row i, among the entries of a folder of depth d.
-fn against(t: &[u32], i: usize, d: u32, name: [u32; 8]) -> row::Order
+fn against(profile: Profile, t: &[u32], i: usize, d: u32, name: [u32; 8]) -> row::Order
     requires { ⌜ 20 * (i + 1) ≤ length (now t) ⌝ }
-    ensures { λ r. ⌜ r ≡ ordered (againstOf d name (rowAt (now (t .entry)) i)) ⌝ }
+    ensures { λ r. ⌜ r ≡ ordered (againstOf d (key profile name) (keyedRow profile (rowAt (now (t .entry)) i))) ⌝ }
 {
     let e = t[20 * i];
     if e <= d {
@@ -25,20 +28,20 @@ fn against(t: &[u32], i: usize, d: u32, name: [u32; 8]) -> row::Order
     if e - d == 1 {
         let p = 20 * i + 2;
         let q = p + 8;
-        return row::compare_words(&name, &t[p..q]);
+        return row::compare_keys(profile, &name, &t[p..q]);
     }
     row::Order::Greater
 }
 
 // Where a name goes among the rows from one on, in a folder of depth d.
-fn spot_from(t: &[u32], d: u32, from: usize, name: [u32; 8]) -> Spot
+fn spot_from(profile: Profile, t: &[u32], d: u32, from: usize, name: [u32; 8]) -> Spot
     requires { ⌜ 20 * from ≤ length (now t) ⌝ }
-    ensures { λ r. ⌜ Sits (now (t .entry)) (spotIn name d from (drop from (rows (now (t .entry))))) r ⌝ }
+    ensures { λ r. ⌜ Sits (now (t .entry)) (spotIn (key profile name) d from (drop from (rows (keyed profile (now (t .entry)))))) r ⌝ }
 {
     let n = t.len() / 20;
     let mut i = from;
     while i < n {
-        match against(t, i, d, name) {
+        match against(profile, t, i, d, name) {
             row::Order::Less => return Spot::Free(i),
             row::Order::Same => return Spot::Taken,
             row::Order::Greater => i += 1,
@@ -48,14 +51,14 @@ fn spot_from(t: &[u32], d: u32, from: usize, name: [u32; 8]) -> Spot
 }
 
 // Where the search in the folder at row f starts: past the entry that was put in last, if the name comes after it.
-fn start(t: &[u32], f: usize, last: usize, name: [u32; 8]) -> usize
+fn start(profile: Profile, t: &[u32], f: usize, last: usize, name: [u32; 8]) -> usize
     requires { ⌜ (20 * (f + 1) ≤ length (now t)) × (20 * (last + 1) ≤ length (now t)) ⌝ }
-    ensures { λ r. ⌜ (r ≡ startOf (now (t .entry)) f last name) × (20 * r ≤ length (now (t .entry))) ⌝ }
+    ensures { λ r. ⌜ (r ≡ startOf (keyed profile (now (t .entry))) f last (key profile name)) × (20 * r ≤ length (now (t .entry))) ⌝ }
 {
     if f < last {
         let p = 20 * last + 2;
         let q = p + 8;
-        match row::compare_words(&name, &t[p..q]) {
+        match row::compare_keys(profile, &name, &t[p..q]) {
             row::Order::Greater => return last + 1,
             row::Order::Less => return f + 1,
             row::Order::Same => return f + 1,
@@ -66,12 +69,12 @@ fn start(t: &[u32], f: usize, last: usize, name: [u32; 8]) -> usize
 
 // Where a name goes among the entries of the folder at row f, of which the one at row last was put in last; last is f
 // where there is none.
-pub fn find_spot(t: &[u32], f: usize, last: usize, name: [u32; 8]) -> Spot
+pub fn find_spot(profile: Profile, t: &[u32], f: usize, last: usize, name: [u32; 8]) -> Spot
     requires { ⌜ (20 * (f + 1) ≤ length (now t)) × (20 * (last + 1) ≤ length (now t)) ⌝ }
-    ensures { λ r. ⌜ Sits (now (t .entry)) (spotOf (now (t .entry)) f last name) r ⌝ }
+    ensures { λ r. ⌜ Sits (now (t .entry)) (spotOf (keyed profile (now (t .entry))) f last (key profile name)) r ⌝ }
 {
-    let from = start(t, f, last, name);
-    spot_from(t, t[20 * f], from, name)
+    let from = start(profile, t, f, last, name);
+    spot_from(profile, t, t[20 * f], from, name)
 }
 
 // The words from a to e, twenty places on.

@@ -14,7 +14,7 @@ use Rattle.lines.proofs.take_line.Tie as tie
 returns : tie.Need-returns
 returns c =
     let a = c .before .before .before .before .args in
-    takes-as (no-words (a .line .now) _ (c .before .skip-blanks .ensures .is) (c .if1 .taken)) (takes-alters (a .t .now) (stays _))
+    takes-as (no-words (a .profile) (a .line .now) _ (c .before .skip-blanks .ensures .is) (c .if1 .taken)) (takes-alters (a .t .now) (stays _))
 
 returns-2 : tie.Need-returns-2
 returns-2 c =
@@ -22,7 +22,7 @@ returns-2 c =
     let k = c .before .before .before .skip-blanks in
     let h = c .before .before .if1 .left in
     let l : k .result < length (a .line .now) = omega arith in
-    takes-as (λ most t. by-first (a .line .now) (k .result) (k .ensures .is) _ refl l most t ∙ rw (c .if2 .taken)) (takes-alters (a .t .now) (stays _))
+    takes-as (λ most t. by-first (a .profile) (a .line .now) (k .result) (k .ensures .is) _ refl l most t ∙ rw (c .if2 .taken)) (takes-alters (a .t .now) (stays _))
 
 word-line-requires : tie.Need-word-line-requires
 word-line-requires c κs =
@@ -41,7 +41,7 @@ returns-3 c =
     let l : k .result < length (a .line .now) = omega arith in
     let e = c .before .before .before .before .word-end in
     takes-as
-    (λ most t. by-first (a .line .now) (k .result) (k .ensures .is) (e .result) (e .ensures .is) l most t ∙ rw (ne-eqb _ 35 (c .before .before .before .before .before .before .before .if2 .left), ← c .before .before .before .before .before .before .all-text .ensures, c .before .before .before .before .before .if3 .taken))
+    (λ most t. by-first (a .profile) (a .line .now) (k .result) (k .ensures .is) (e .result) (e .ensures .is) l most t ∙ rw (ne-eqb _ 35 (c .before .before .before .before .before .before .before .if2 .left), ← c .before .before .before .before .before .before .all-text .ensures, c .before .before .before .before .before .if3 .taken))
     (c .before .before .word-line .ensures)
 
 returns-4 : tie.Need-returns-4
@@ -51,7 +51,7 @@ returns-4 c =
     let h = c .before .before .before .before .if1 .left in
     let l : k .result < length (a .line .now) = omega arith in
     takes-as
-    (λ most t. by-first (a .line .now) (k .result) (k .ensures .is) _ refl l most t ∙ rw (ne-eqb _ 35 (c .before .before .if2 .left), ← c .before .all-text .ensures, c .if3 .left))
+    (λ most t. by-first (a .profile) (a .line .now) (k .result) (k .ensures .is) _ refl l most t ∙ rw (ne-eqb _ 35 (c .before .before .if2 .left), ← c .before .all-text .ensures, c .if3 .left))
     (takes-alters (a .t .now) (refuses 7 _ (omega arith)))
 
 pub take-line-spec : {M : Type 1} → statement M

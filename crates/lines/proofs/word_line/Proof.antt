@@ -9,7 +9,7 @@ use Rattle.lines.proofs.word_line.Tie as tie
 
 slash-line-requires : tie.Need-slash-line-requires
 slash-line-requires c κs =
-    let p = c .before .before .before .before .pre in (omega arith, p .1, ready-deep _ _ (p .2))
+    let p = c .before .before .before .before .pre in (omega arith, p .1, ready-deep _ _ _ (p .2))
 
 returns : tie.Need-returns
 returns c =
@@ -19,7 +19,7 @@ returns c =
 
 close-line-requires : tie.Need-close-line-requires
 close-line-requires c κs =
-    let p = c .before .before .before .before .before .before .before .before .pre in (p .1, ready-deep _ _ (p .2))
+    let p = c .before .before .before .before .before .before .before .before .pre in (p .1, ready-deep _ _ _ (p .2))
 
 returns-2 : tie.Need-returns-2
 returns-2 c =
@@ -31,7 +31,7 @@ returns-2 c =
 
 root-line-requires : tie.Need-root-line-requires
 root-line-requires c κs =
-    let p = c .before .before .before .before .before .before .before .before .before .before .before .before .pre in (p .1, ready-deep _ _ (p .2))
+    let p = c .before .before .before .before .before .before .before .before .before .before .before .before .pre in (p .1, ready-deep _ _ _ (p .2))
 
 returns-3 : tie.Need-returns-3
 returns-3 c =

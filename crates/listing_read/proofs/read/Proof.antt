@@ -12,17 +12,17 @@ read-lines-requires c κs = zeros-all _ (length (c .before .before .before .befo
 returns : tie.Need-returns
 returns c =
     let long = length-replicate {A = ℕ} (length (c .before .before .before .before .before .before .before .before .before .before .before .before .before .before .before .args .table .now)) 0 in
-    read-accepted _ _ (cc) _ (cc) _ _ (c .before .before .before .before .before .read-lines .ensures) _ (c .before .answer .given .1)
+    read-accepted _ _ _ (cc) _ (cc) _ _ (c .before .before .before .before .before .read-lines .ensures) _ (c .before .answer .given .1)
 
 returns-2 : tie.Need-returns-2
 returns-2 c =
     let long = length-replicate {A = ℕ} (length (c .before .before .before .before .before .before .before .before .before .before .before .before .before .before .before .before .before .before .before .args .table .now)) 0 in
     let ran = c .before .before .before .before .before .before .before .before .before .read-lines in
-    let same = ran .kept .1 .0 in
-    read-refused _ _ (cc) _ (cc) _ _ (ran .ensures) _ _ _ _ (c .before .before .before .before .before .answer2 .given .1) (cc)
+    let same = ran .kept .1 .1 .0 in
+    read-refused _ _ _ (cc) _ (cc) _ _ (ran .ensures) _ _ _ _ (c .before .before .before .before .before .answer2 .given .1) (cc)
 
 returns-3 : tie.Need-returns-3
-returns-3 c = read-formless _ _ _ (cc) (cc)
+returns-3 c = read-formless _ _ _ _ (cc) (cc)
 
 pub read-spec : {M : Type 1} → statement M
 read-spec =

@@ -10,14 +10,14 @@ use Rattle.listing_read.proofs.read_lines.Statement.{statement}
 use Rattle.listing_read.proofs.read_lines.Tie as tie
 
 abbrev Inv-loop : tie.InvT-loop
-Inv-loop text t₀ s₀ i₀ line₀ t s i line = (i ≤ length text) × (line ≤ i + 1) × Going text (length t₀) t s i line
+Inv-loop p text t₀ s₀ i₀ line₀ t s i line = (i ≤ length text) × (line ≤ i + 1) × Going p text (length t₀) t s i line
 
 abbrev μ-loop : tie.MeasureT-loop
-μ-loop text t₀ s₀ i₀ line₀ t s i line = length text - i
+μ-loop p text t₀ s₀ i₀ line₀ t s i line = length text - i
 
 loop-holds : tie.Need-loop-holds Inv-loop μ-loop
 loop-holds c =
-    let s = c .before .before .before in (omega arith, omega arith, going-first (s .args .text .now) (s .args .t .now) _ (s .pre) (c .fresh .ensures))
+    let s = c .before .before .before in (omega arith, omega arith, going-first (s .args .profile) (s .args .text .now) (s .args .t .now) _ (s .pre) (c .fresh .ensures))
 
 sub-take-line : tie.Need-sub-take-line Inv-loop μ-loop
 sub-take-line c = let e = c .line-end .ensures .is in omega arith
@@ -76,15 +76,15 @@ loop-again c =
     let ends = simp (length-take, length-drop) at (c .line-ends .ensures .fits) in
     let low = v .inv .1 in
     let k = c .before .before .before .before .before .before .take-line in
-    (fits, omega arith, rw (c .line-ends .ensures .is) (goes-on (v .inv .2) (e .result) (e .ensures .is) (c .before .before .before .before .before .before .before .before .before .before .loop-test .taken) _ (k .result) (k .ensures) (c .before .before .before .if1 .left) (k .kept .1 .0)))
+    (fits, omega arith, rw (c .line-ends .ensures .is) (goes-on (v .inv .2) (e .result) (e .ensures .is) (c .before .before .before .before .before .before .before .before .before .before .loop-test .taken) _ (k .result) (k .ensures) (c .before .before .before .if1 .left) (k .kept .1 .1 .0)))
 
 returns-2 : tie.Need-returns-2 Inv-loop μ-loop
 returns-2 c =
     let v = c .before .before .loop in
     let g = v .inv .2 in
     let q = going-end g (let h = c .before .loop-test .left in omega arith) in
-    let a = c .answer-at-end .ensures .does _ (g .state) (g .reads) in
-    rw q (record { says = a .0; kind = a .1; table = λ z. rw (← g .long) (table-end _ _ _ (g .state) (g .good) (g .reads)) })
+    let a = c .answer-at-end .ensures .does _ _ (g .state) (g .reads) in
+    rw q (record { says = a .0; kind = a .1; table = λ z. rw (← g .long) (table-end _ _ _ _ (g .state) (g .good) (g .reads)) })
 
 pub read-lines-spec : {M : Type 1} → statement M
 read-lines-spec =

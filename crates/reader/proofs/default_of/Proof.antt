@@ -5,7 +5,7 @@ use Rattle.reader.proofs.default_of.Statement.{statement}
 use Rattle.reader.proofs.default_of.Tie as tie
 
 returns : tie.Need-returns
-returns c = record { does = λ most w t g h. rw (c .before .innermost .ensures .0) (in-force most w _ t g h) }
+returns c = record { does = λ p most w t g h. rw (c .before .innermost .ensures .0) (in-force p most w _ t g h) }
 
 pub default-of-spec : {M : Type 1} → statement M
 default-of-spec = tie.close (tie.spec (λ c κs. search needs) (λ c. search needs) returns)

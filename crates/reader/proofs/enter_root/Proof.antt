@@ -6,7 +6,7 @@ use Rattle.reader.proofs.enter_root.Statement.{statement}
 use Rattle.reader.proofs.enter_root.Tie as tie
 
 returns : tie.Need-returns
-returns c = record { does = λ w d g h. root-opens w _ d _ g refl refl refl refl refl h }
+returns c = record { does = λ p w d g h. root-opens p w _ d _ g refl refl refl refl refl h }
 
 pub enter-root-spec : {M : Type 1} → statement M
 enter-root-spec = tie.close (tie.spec (λ c. search needs) returns)

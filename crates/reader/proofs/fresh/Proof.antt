@@ -6,7 +6,7 @@ use Rattle.reader.proofs.fresh.Tie as tie
 use Rattle.reader.proofs.fresh.Reads as reads
 
 returns : tie.Need-returns
-returns c = record { does = λ n. fresh-reads n _ refl refl refl refl }
+returns c = record { does = λ p n. fresh-reads p n _ refl refl refl refl }
 
 pub fresh-spec : {M : Type 1} → statement M
 fresh-spec = tie.close (tie.spec returns)

@@ -8,13 +8,13 @@ use Rattle.reader.proofs.put_row.Statement.{statement}
 use Rattle.reader.proofs.put_row.Tie as tie
 
 -- what is known of the places that are read
-known : (c : tie.Start) → InUse (c .args .t .now) (c .args .t2)
-known c = in-use (c .args .t .now) (c .args .t2) (opened-ready _ _ (c .pre .0) (c .pre .1))
+known : (c : tie.Start) → InUse (c .args .t .now) (c .args .t3)
+known c = in-use (c .args .profile) (c .args .t .now) (c .args .t3) (opened-ready _ _ _ (c .pre .0) (c .pre .1))
 
 returns : tie.Need-returns
 returns c =
     let a = c .before .before .args in
-    record { does = λ f p ds g h. did-deep (a .t .now) (a .t2) (a .name) (a .t4) f p ds g h (a .t .now) _ (c .if1 .taken) (omega arith) }
+    record { does = λ f q ds g h. did-deep (a .profile) (a .t .now) (a .t3) (a .name) (a .t5) f q ds g h (a .t .now) _ (c .if1 .taken) (omega arith) }
 
 sub-k : tie.Need-sub-k
 sub-k c = let p = c .before .before .pre .1 in omega arith
@@ -48,21 +48,21 @@ row-of-requires c κs = less-deep _ _ (known (c .before .before .before .before 
 insert-requires : tie.Need-insert-requires
 insert-requires c κs =
     let a = c .before .before .before .before .before .before .before .before .before .before .before .before .args in
-    let f = row-fits (a .t2 .count) (a .t .now) (sym (c .before .before .if2 .taken) ∙ c .before .before .before .has-room .ensures) in
+    let f = row-fits (a .t3 .count) (a .t .now) (sym (c .before .before .if2 .taken) ∙ c .before .before .before .has-room .ensures) in
     let i = simp length-take at (rw (c .before .before .before .before .before .i .given .1) at (c .before .before .before .before .before .before .before .find-spot .ensures .inside)) in
     (omega arith, f .0)
 
 enter-requires : tie.Need-enter-requires
 enter-requires c κs =
     let a = c .before .before .before .before .before .before .before .before .before .before .before .before .before .before .before .args in
-    (less-deep _ _ (known (c .before .before .before .before .before .before .before .before .before .before .before .before .before .before .before)) (c .before .before .before .before .before .before .before .before .before .before .before .before .before .if1 .left), row-fits (a .t2 .count) (a .t .now) (sym (c .before .before .before .before .before .if2 .taken) ∙ c .before .before .before .before .before .before .has-room .ensures) .1)
+    (less-deep _ _ (known (c .before .before .before .before .before .before .before .before .before .before .before .before .before .before .before)) (c .before .before .before .before .before .before .before .before .before .before .before .before .before .if1 .left), row-fits (a .t3 .count) (a .t .now) (sym (c .before .before .before .before .before .if2 .taken) ∙ c .before .before .before .before .before .before .has-room .ensures) .1)
 
 returns-2 : tie.Need-returns-2
 returns-2 c =
     let s = c .before .before .before .before .before .before .before .before .before .before .before .before .before .before .before .before in
     record {
-      does = λ f p ds g h.
-          did-put (s .args .t .now) (s .args .t2) (s .args .name) (s .args .t4) f p ds g h (c .before .before .before .insert .last .0) _ (c .before .before .before .before .before .before .before .before .before .before .before .before .before .before .if1 .left) _ (sym (c .before .before .before .before .before .before .before .before .before .i .given .1) ∙ c .before .before .before .before .before .before .before .before .before .before .before .find-spot .ensures .answer)
+      does = λ f q ds g h.
+          did-put (s .args .profile) (s .args .t .now) (s .args .t3) (s .args .name) (s .args .t5) f q ds g h (c .before .before .before .insert .last .0) _ (c .before .before .before .before .before .before .before .before .before .before .before .before .before .before .if1 .left) _ (sym (c .before .before .before .before .before .before .before .before .before .i .given .1) ∙ c .before .before .before .before .before .before .before .before .before .before .before .find-spot .ensures .answer)
           (s .pre .2) (search needs) (sym (c .before .before .before .before .before .before .if2 .taken) ∙ c .before .before .before .before .before .before .before .has-room .ensures) refl (c .enter .ensures)
           (c .before .before .before .insert .ensures ∙ rw (c .before .before .before .before .row-of .ensures));
     }
@@ -71,16 +71,16 @@ returns-3 : tie.Need-returns-3
 returns-3 c =
     let a = c .before .before .before .before .before .before .before .args in
     record {
-      does = λ f p ds g h.
-          did-taken (a .t .now) (a .t2) (a .name) (a .t4) f p ds g h (a .t .now) _ (c .before .before .before .before .before .if1 .left) (sym (c .enum-told .given .1) ∙ c .before .before .find-spot .ensures .answer) (omega arith);
+      does = λ f q ds g h.
+          did-taken (a .profile) (a .t .now) (a .t3) (a .name) (a .t5) f q ds g h (a .t .now) _ (c .before .before .before .before .before .if1 .left) (sym (c .enum-told .given .1) ∙ c .before .before .find-spot .ensures .answer) (omega arith);
     }
 
 returns-4 : tie.Need-returns-4
 returns-4 c =
     let a = c .before .before .before .before .before .before .before .before .before .before .args in
     record {
-      does = λ f p ds g h.
-          did-full (a .t .now) (a .t2) (a .name) (a .t4) f p ds g h (a .t .now) _ (c .before .before .before .before .before .before .before .before .if1 .left) _ (sym (c .before .before .before .i .given .1) ∙ c .before .before .before .before .before .find-spot .ensures .answer)
+      does = λ f q ds g h.
+          did-full (a .profile) (a .t .now) (a .t3) (a .name) (a .t5) f q ds g h (a .t .now) _ (c .before .before .before .before .before .before .before .before .if1 .left) _ (sym (c .before .before .before .i .given .1) ∙ c .before .before .before .before .before .find-spot .ensures .answer)
           (sym (c .if2 .left) ∙ c .before .has-room .ensures) (omega arith);
     }
 

@@ -3,17 +3,19 @@ use mathlib.Core.Path.{_≡_, refl, sym, _∙_}
 use lib.ListN.{drop}
 use Prim.Native.Nat.{_-_, _≤_}
 use borrow.Author.Needs.{needs}
+use Rattle.tree.specs.Key.{key}
 use Rattle.row.specs.Table.{rows}
+use Rattle.row.specs.Keyed.{keyed}
 use Rattle.slot.specs.Insert.{spotIn}
 use Rattle.slot.proofs.Search.{spot-end, spot-at}
 use Rattle.slot.proofs.spot_from.Statement.{statement}
 use Rattle.slot.proofs.spot_from.Tie as tie
 
 abbrev Inv-loop : tie.InvT-loop
-Inv-loop t d from name n i₀ i = (i ≤ n) × (spotIn name d from (drop from (rows t)) ≡ spotIn name d i (drop i (rows t)))
+Inv-loop p t d from name n i₀ i = (i ≤ n) × (spotIn (key p name) d from (drop from (rows (keyed p t))) ≡ spotIn (key p name) d i (drop i (rows (keyed p t))))
 
 abbrev μ-loop : tie.MeasureT-loop
-μ-loop t d from name n i₀ i = n - i
+μ-loop p t d from name n i₀ i = n - i
 
 loop-holds : tie.Need-loop-holds Inv-loop μ-loop
 loop-holds c = (search needs, refl)
@@ -23,7 +25,7 @@ returns c =
     let l = c .before .before .before .before in
     let a = l .before .before .args in
     record {
-      answer = sym (l .loop .inv .1 ∙ rw (c .enum-told .given .1) at (spot-at (a .t .now) (a .d) (a .name) (l .loop .i) _ (c .before .before .against .ensures) (search needs)));
+      answer = sym (l .loop .inv .1 ∙ rw (c .enum-told .given .1) at (spot-at (a .profile) (a .t .now) (a .d) (key (a .profile) (a .name)) (l .loop .i) _ (c .before .before .against .ensures) (search needs)));
       inside = search needs;
     }
 
@@ -32,7 +34,7 @@ returns-2 c =
     let l = c .before .before .before .before in
     let a = l .before .before .args in
     record {
-      answer = sym (l .loop .inv .1 ∙ rw (c .enum-told2 .given .1) at (spot-at (a .t .now) (a .d) (a .name) (l .loop .i) _ (c .before .before .against .ensures) (search needs)));
+      answer = sym (l .loop .inv .1 ∙ rw (c .enum-told2 .given .1) at (spot-at (a .profile) (a .t .now) (a .d) (key (a .profile) (a .name)) (l .loop .i) _ (c .before .before .against .ensures) (search needs)));
       inside = tt;
     }
 
@@ -40,13 +42,13 @@ loop-again : tie.Need-loop-again Inv-loop μ-loop
 loop-again c =
     let l = c .before .before .before .before in
     let a = l .before .before .args in
-    (search needs, l .loop .inv .1 ∙ rw (c .enum-told3 .given .1) at (spot-at (a .t .now) (a .d) (a .name) (l .loop .i) _ (c .before .before .against .ensures) (search needs)))
+    (search needs, l .loop .inv .1 ∙ rw (c .enum-told3 .given .1) at (spot-at (a .profile) (a .t .now) (a .d) (key (a .profile) (a .name)) (l .loop .i) _ (c .before .before .against .ensures) (search needs)))
 
 returns-3 : tie.Need-returns-3 Inv-loop μ-loop
 returns-3 c =
     let l = c .before in
     let a = l .before .before .args in
-    record { answer = sym (l .loop .inv .1 ∙ spot-end (a .t .now) (a .d) (a .name) (l .loop .i) (search needs)); inside = search needs }
+    record { answer = sym (l .loop .inv .1 ∙ spot-end (a .profile) (a .t .now) (a .d) (key (a .profile) (a .name)) (l .loop .i) (search needs)); inside = search needs }
 
 pub spot-from-spec : {M : Type 1} → statement M
 spot-from-spec =

@@ -8,18 +8,21 @@ use Rattle.slot.proofs.start.Tie as tie
 
 returns : tie.Need-returns
 returns c =
-    let a = c .before .before .before .before .before .before .before .args in
-    (sym (rw (c .enum-told .given .1) at (start-past (a .t .now) (a .f) (a .last) (a .t4) _ (c .before .before .compare-words .ensures) (c .before .before .before .before .before .if1 .taken))), search needs)
+    let s = c .before .before .before .before .before .before .before in
+    let a = s .args in
+    (sym (rw (c .enum-told .given .1) at (start-past (a .profile) (a .t .now) (a .f) (a .last) (a .t5) _ (c .before .before .compare-keys .ensures) (c .before .before .before .before .before .if1 .taken) (s .pre .1))), search needs)
 
 returns-2 : tie.Need-returns-2
 returns-2 c =
-    let a = c .before .before .before .before .before .before .before .args in
-    (sym (rw (c .enum-told2 .given .1) at (start-past (a .t .now) (a .f) (a .last) (a .t4) _ (c .before .before .compare-words .ensures) (c .before .before .before .before .before .if1 .taken))), search needs)
+    let s = c .before .before .before .before .before .before .before in
+    let a = s .args in
+    (sym (rw (c .enum-told2 .given .1) at (start-past (a .profile) (a .t .now) (a .f) (a .last) (a .t5) _ (c .before .before .compare-keys .ensures) (c .before .before .before .before .before .if1 .taken) (s .pre .1))), search needs)
 
 returns-3 : tie.Need-returns-3
 returns-3 c =
-    let a = c .before .before .before .before .before .before .before .args in
-    (sym (rw (c .enum-told3 .given .1) at (start-past (a .t .now) (a .f) (a .last) (a .t4) _ (c .before .before .compare-words .ensures) (c .before .before .before .before .before .if1 .taken))), search needs)
+    let s = c .before .before .before .before .before .before .before in
+    let a = s .args in
+    (sym (rw (c .enum-told3 .given .1) at (start-past (a .profile) (a .t .now) (a .f) (a .last) (a .t5) _ (c .before .before .compare-keys .ensures) (c .before .before .before .before .before .if1 .taken) (s .pre .1))), search needs)
 
 returns-4 : tie.Need-returns-4
 returns-4 c = (rw (le-ltb _ _ (c .if1 .left)), search needs)
