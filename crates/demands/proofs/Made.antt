@@ -26,7 +26,7 @@ use Rattle.rules.specs.Faults.{unless, roomRule}
 use Rattle.moves.specs.Move.{parentRule, movedWords, moveDue}
 use Rattle.tree.proofs.Same.{and-true}
 use Rattle.settle.proofs.Spelled.{formed-moved}
-use Rattle.reconcile.proofs.Planned.{table-rows}
+use Rattle.row.proofs.Tree.{length-table}
 use Rattle.rules.proofs.Faults.{first-passed, first-last, unless-true, room-parts}
 use Rattle.moves.proofs.Formed.{names-ruled}
 use Rattle.demands.specs.Demand3.{Made, Tables, AllCarried}
@@ -60,7 +60,7 @@ made-tab p q target source result t s M T S =
     let ruled = path-ruled (M .names) (M .depth) (M .slots) (unless-true _ 5 0 (c .0)) in
     let formed = formed-moved p q s t (rw (M .path) at (ruled .0)) (rw (M .path) at (ruled .1)) (S .formed) (T .formed) in
     let words : w ≡ table (movedIn p q s t) = rw (tab-tree p source s S, tab-tree p target t T, M .path) in
-    let size-is : length w ≡ 20 * suc (size (movedIn p q s t)) = ap length words ∙ table-rows (movedIn p q s t) (formed .within) in
+    let size-is : length w ≡ 20 * suc (size (movedIn p q s t)) = ap length words ∙ length-table (movedIn p q s t) (formed .within) in
     let answered : moveDue p target source (M .names) (M .depth) (M .room) ≡ last = first-last _ last (M .accepted) in
     let all : length w ≡ 20 * (length w / 20) = omega arith in
     record {

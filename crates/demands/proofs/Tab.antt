@@ -1,15 +1,14 @@
 -- Tables of at most 4,096 rows of trees that are well formed in a profile: what a table that passes is, and what every call leaves.
 use mathlib.Core.Path.{_≡_, refl, ap, sym, _∙_}
-use mathlib.Core.List.{List, [], append-nil}
+use mathlib.Core.List.{List}
 use Prim.Native.Nat.{ℕ, suc, _≤_}
-use Rattle.tree.specs.Forest.{Forest, Node.folder, size}
-use Rattle.tree.specs.Rules.{NameRule, ContentRule, Within, Words32}
+use Rattle.tree.specs.Forest.{Forest, size}
+use Rattle.tree.specs.Rules.{Words32}
 use Rattle.tree.specs.declared.Profile.{Profile}
 use Rattle.tree.specs.Key.{FormedIn}
-use Rattle.row.specs.Tree.{rowsOf, nodeRows, rootName, siblings, table, treeOf}
+use Rattle.row.specs.Tree.{table, treeOf}
 use Rattle.rules.specs.Keyed.{Passes}
-use Rattle.row.proofs.Flat.{Whole, rows-flat}
-use Rattle.row.proofs.Tree.{Ended, whole-rowsOf, siblings-rows}
+use Rattle.row.proofs.Tree.{tree-table}
 use Rattle.rules.proofs.Keyed.{passed-table, passed-formed, passed-most, table-passes}
 
 pub record Tab (p : Profile) (w : List ℕ) (f : Forest) : Type 0 where
@@ -17,15 +16,9 @@ pub record Tab (p : Profile) (w : List ℕ) (f : Forest) : Type 0 where
   pub formed : FormedIn p f
   pub rows : suc (size f) ≤ 4096
 
--- the tree of a tree's table is the tree
-table-tree : (f : Forest) → Within NameRule ContentRule 16 f → treeOf (table f) ≡ f
-unfolding table treeOf nodeRows Whole Ended
-table-tree f W =
-    rw (rows-flat (nodeRows 0 rootName (folder f)) (refl, whole-rowsOf 16 1 f W)) (ap (siblings 1) (sym (append-nil (rowsOf 1 f))) ∙ siblings-rows 16 1 f [] W tt)
-
 module _ (p : Profile) where
   pub tab-tree : (w : List ℕ) (f : Forest) → Tab p w f → treeOf w ≡ f
-  tab-tree w f t = ap treeOf (t .is) ∙ table-tree f (t .formed .within)
+  tab-tree w f t = ap treeOf (t .is) ∙ tree-table f (t .formed .within)
 
   pub tab-passes : (w : List ℕ) (f : Forest) → Tab p w f → Passes p w
   tab-passes w f t = rw (t .is) (table-passes p f (t .formed) (t .rows))
