@@ -10,7 +10,7 @@ use Rattle.row.specs.Tree.{treeOf}
 use Rattle.rules.specs.Answer.{isAccepted}
 use Rattle.reconcile.specs.Run.{Lent, runDue, runOf}
 use Rattle.settle.proofs.Spelled.{settled-in}
-use Rattle.rules.proofs.Keyed.{passed-formed}
+use Rattle.rules.proofs.Passed.{passed-formed}
 use Rattle.reconcile.proofs.Accepted.{passed}
 use Rattle.demands.specs.Demand2.{Demand2}
 

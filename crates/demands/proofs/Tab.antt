@@ -9,7 +9,7 @@ use Rattle.tree.specs.Key.{FormedIn}
 use Rattle.row.specs.Tree.{table, treeOf}
 use Rattle.rules.specs.Keyed.{Passes}
 use Rattle.row.proofs.Tree.{tree-table}
-use Rattle.rules.proofs.Keyed.{passed-table, passed-formed, passed-most, table-passes}
+use Rattle.rules.proofs.Passed.{passed-table, passed-formed, passed-most, table-passes}
 
 pub record Tab (p : Profile) (w : List ℕ) (f : Forest) : Type 0 where
   pub is : w ≡ table f

@@ -20,7 +20,7 @@ use Rattle.rules.specs.Refusal.{refusalOf, twinsDue}
 use Rattle.rules.specs.Keyed.{checkedIn, twins, Passes}
 use Rattle.rules.specs.Faults.{firstRefusal, unless, roomRule}
 use Rattle.rules.proofs.Small.{small-all}
-use Rattle.rules.proofs.Keyed.{passed-formed, passed-most}
+use Rattle.rules.proofs.Passed.{passed-formed, passed-most}
 use Rattle.plan.proofs.Bound.{lines-bound}
 use Rattle.reconcile.specs.Answer.{answerWith}
 use Rattle.reconcile.specs.Run.{given, Lent, countsOf, twinsOf, tablesDue, roomsDue, runDue, runOf}

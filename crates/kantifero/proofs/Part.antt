@@ -9,7 +9,7 @@ use Prim.Native.Nat.{ℕ, zero, suc, _*_, _-_, _≤_}
 use borrow.Author.Tests.{eqb-true, eqb-false}
 use Rattle.tree.specs.declared.Profile.{Profile}
 use Rattle.rules.specs.Keyed.{Passes}
-use Rattle.rules.proofs.Keyed.{passed-words}
+use Rattle.rules.proofs.Passed.{passed-words}
 use Rattle.find.specs.Subtree.{subtree, endOf}
 use Rattle.carry.specs.Carried.{passes, carriedRows}
 use Rattle.carry.proofs.Checks.{both-pass}

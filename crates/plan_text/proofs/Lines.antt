@@ -13,7 +13,7 @@ use Rattle.tree.specs.Key.{fold}
 use Rattle.row.specs.Buffer.{over}
 use Rattle.row.specs.Tree.{treeOf}
 use Rattle.rules.specs.Keyed.{Passes}
-use Rattle.rules.proofs.Keyed.{passed-words, passed-table, passed-formed}
+use Rattle.rules.proofs.Passed.{passed-words, passed-table, passed-formed}
 use Rattle.settle.specs.Decision.{Decision.agreed, Decision.leftGets, Decision.rightGets, Decision.clash}
 use Rattle.settle.specs.Results.{Line.line, Lines}
 use Rattle.settle.specs.Spelled.{outcomeIn}

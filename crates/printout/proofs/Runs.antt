@@ -18,7 +18,7 @@ use Rattle.row.specs.Tree.{treeOf}
 use Rattle.row.proofs.Tree.{length-table, tree-table}
 use Rattle.rules.specs.declared.Answer.the-variants.{Accepted}
 use Rattle.rules.specs.Keyed.{Passes}
-use Rattle.rules.proofs.Keyed.{table-passes}
+use Rattle.rules.proofs.Passed.{table-passes}
 use Rattle.spell.specs.Puts.{Puts}
 use Rattle.plan.specs.Items.{listWords}
 use Rattle.plan.proofs.Bound.{Takes, result-bound, lines-bound}

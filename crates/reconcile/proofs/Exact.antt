@@ -19,7 +19,7 @@ use Rattle.rules.specs.Refusal.{refusalOf}
 use Rattle.rules.specs.Faults.{firstRefusal}
 use Rattle.rules.specs.Keyed.{twins}
 use Rattle.rules.proofs.Plain.{checked}
-use Rattle.rules.proofs.Keyed.{checked-exact}
+use Rattle.rules.proofs.Exact.{checked-exact}
 use Rattle.plan.specs.Items.{listWords}
 use Rattle.tally.specs.Count.{tallyOf}
 use Rattle.reconcile.specs.Answer.{answerWith}

@@ -25,7 +25,7 @@ use mir.Syntax.{w32}
 use mir.Val.{Fits}
 use Rattle.row.proofs.Tree.{length-table}
 use Rattle.rules.proofs.Small.{small-all}
-use Rattle.rules.proofs.Keyed.{passed-whole, passed-words, passed-rows, passed-formed, passed-most}
+use Rattle.rules.proofs.Passed.{passed-whole, passed-words, passed-rows, passed-formed, passed-most}
 use Rattle.settle.proofs.Spelled.{formed-left, formed-right, formed-archive}
 use Rattle.plan.proofs.Keyed.{IsTableIn, settled-keyed}
 use Rattle.plan.proofs.Bound.{plan-length, plan-bound}

@@ -20,7 +20,7 @@ use Rattle.rules.specs.Answer.{isAccepted, placeOf}
 use Rattle.rules.specs.Contract.{checkDue}
 use Rattle.rules.specs.Keyed.{Passes}
 use Rattle.rules.proofs.Faults.{first-both, first-last}
-use Rattle.rules.proofs.Keyed.{passed-length, passed-table}
+use Rattle.rules.proofs.Passed.{passed-length, passed-table}
 use Rattle.rules.proofs.Passing.{check-passes}
 use Rattle.rules.proofs.Says.{says-one}
 use Rattle.listing.specs.Reading.{Outcome.accepted, reading}

@@ -8,7 +8,7 @@ use Rattle.tree.specs.Rules.{Words32}
 use Rattle.tree.specs.declared.Profile.{Profile}
 use Rattle.row.specs.Tree.{treeOf}
 use Rattle.rules.specs.Keyed.{Passes}
-use Rattle.rules.proofs.Keyed.{passed-formed, passed-length, passed-most}
+use Rattle.rules.proofs.Passed.{passed-formed, passed-length, passed-most}
 use Rattle.listing.specs.Reading.{Outcome.accepted, reading}
 use Rattle.listing.specs.Writing.{textOf}
 use Rattle.listing.proofs.RoundTrip.{round-trip}

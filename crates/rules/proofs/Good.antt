@@ -10,8 +10,7 @@ use borrow.Author.Tests.{eqb-true, le-leb, leb-true}
 use Rattle.tree.specs.Rules.{zeros, goodName}
 use Rattle.row.specs.Table.{Row, depth, kind, name}
 use Rattle.tree.proofs.Same.{and-true}
-use Rattle.row.proofs.Flat.{Whole}
-use Rattle.row.proofs.Fits.{Formed, Fits}
+use Rattle.row.proofs.Fits.{Formed}
 use Rattle.rules.specs.Rules.{deepest, depthRule, kindRule}
 use Rattle.rules.proofs.Plain.{ascends, okRow, lead}
 
@@ -71,11 +70,3 @@ rule-formed r h e = go (eqb (kind r) 0) refl e
     go : (b : Bool) → eqb (kind r) 0 ≡ b → cond b (zeros (drop 10 r)) (eqb (kind r) 1) ≡ true → Formed r
     go true z e = let q = eqb-true (kind r) 0 z in record { twenty = h; kinds = omega arith; zeroed = λ x. e }
     go false z e = let q = eqb-true (kind r) 1 e in record { twenty = h; kinds = omega arith; zeroed = λ x. absurd (omega arith) }
-
--- good rows fit together
-pub good-fits : (p : Row) (ps rs : List Row) → Whole rs → Good (p ∷ ps) rs → Fits (deepest p) rs
-unfolding Whole Good Fits
-good-fits p ps [] h g = tt
-good-fits p ps (r ∷ rs) h g =
-    let F = ok-follows p ps r (g .0) in
-    (F .low, F .step, rule-formed r (h .0) (F .kinds), good-fits r (p ∷ ps) rs (h .1) (g .1))

@@ -1,18 +1,20 @@
--- What the row rules are for: a table is fine exactly when it is the table of a well-formed tree of at most 4,096 rows.
-use mathlib.Core.Path.{_≡_, sym, ap, _∙_}
+-- What the row rules are for: a table passes exactly when it is the table of a tree, of at most 4,096 rows, that is well formed in
+-- the profile.
+use mathlib.Core.Path.{_≡_, sym}
 use mathlib.Core.Logic.{_↔_}
 use mathlib.Core.List.{List}
-use native.Mathlib.Omega.{arith}
-use Prim.Native.Nat.{ℕ, suc, _≤_}
+use Prim.Native.Nat.{ℕ, suc, _-_, _≤_}
 use Rattle.tree.specs.Forest.{Forest, size}
-use Rattle.tree.specs.Rules.{Words32, WellFormed}
+use Rattle.tree.specs.Rules.{Words32}
+use Rattle.tree.specs.declared.Profile.{Profile}
+use Rattle.tree.specs.Key.{FormedIn}
+use Rattle.row.specs.Table.{rows}
 use Rattle.row.specs.Tree.{table, treeOf}
-use Rattle.rules.specs.declared.Checked.the-variants.{Fine}
-use Rattle.rules.proofs.Plain.{checked}
-use Rattle.rules.proofs.Fine.{fine-most, fine-table, fine-length, fine-formed, table-fine}
+use Rattle.rules.specs.Keyed.{Passes}
+use Rattle.rules.proofs.Passed.{passed-formed, passed-most, passed-table, table-passes}
 
-pub fine-tables : (w : List ℕ) → Words32 w → (checked w ≡ Fine) ↔ ((f : Forest) × WellFormed f × (suc (size f) ≤ 4096) × (w ≡ table f))
-fine-tables w s = (
-  λ e. (treeOf w, fine-formed w e s, omega (arith, fine-length w e, fine-most w e), sym (fine-table w e)),
-  λ t. ap checked (t .3) ∙ table-fine (t .0) (t .1) (t .2),
+pub passed-tables : (p : Profile) (w : List ℕ) → Words32 w → Passes p w ↔ ((f : Forest) × FormedIn p f × (suc (size f) ≤ 4096) × (w ≡ table f))
+passed-tables p w s = (
+  λ P. (treeOf w, passed-formed p w P s, passed-most p w P, sym (passed-table p w P)),
+  λ t. rw (t .3) (table-passes p (t .0) (t .1) (t .2)),
 )

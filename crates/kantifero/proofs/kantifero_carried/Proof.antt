@@ -5,13 +5,13 @@ use Rattle.kantifero.proofs.kantifero_carried.Statement.{statement}
 use Rattle.kantifero.proofs.kantifero_carried.Tie as tie
 
 part-words-requires : tie.Need-part-words-requires
-part-words-requires c κs = rw (c .carried .ensures) (carried-within _ _ _ _ _)
+part-words-requires c κs = rw (c .carried .ensures) (carried-within _ _ _ _ _ _)
 
 returns : tie.Need-returns
 returns c =
     let s = c .before .before .before .before .args in
     let e = rw (c .before .carried .ensures) at (c .part-words .ensures) in
-    record { answered = e; part = rw e (carried-part (s .left .now) (s .right .now) (s .kind) (s .left-row) (s .right-row)) }
+    record { answered = e; part = rw e (carried-part _ (s .left .now) (s .right .now) (s .kind) (s .left-row) (s .right-row)) }
 
 pub kantifero-carried-spec : {M : Type 1} → statement M
-kantifero-carried-spec = tie.close (tie.spec (λ c κs. search needs) part-words-requires returns)
+kantifero-carried-spec = tie.close (tie.spec (λ c κs. search needs) (λ c κs. search needs) part-words-requires returns)

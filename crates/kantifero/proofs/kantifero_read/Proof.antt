@@ -11,7 +11,7 @@ use Rattle.kantifero.proofs.kantifero_read.Tie as tie
 answer-words-requires : tie.Need-answer-words-requires
 answer-words-requires c κs =
     let a = c .before .before .before .before .before .before .args in
-    omega (arith, c .before .before .read .ensures .says .place-due, read-place (a .text .now) (length (a .table .now)))
+    omega (arith, c .before .before .read .ensures .says .place-due, read-place _ (a .text .now) (length (a .table .now)))
 
 returns : tie.Need-returns
 returns c =
@@ -20,4 +20,4 @@ returns c =
 
 pub kantifero-read-spec : {M : Type 1} → statement M
 kantifero-read-spec =
-    tie.close (tie.spec (λ c κs. search needs) answer-words-requires (λ c. search needs) returns)
+    tie.close (tie.spec (λ c κs. search needs) (λ c κs. search needs) answer-words-requires (λ c. search needs) returns)

@@ -10,12 +10,12 @@ reconciled-words-requires c κs =
     let w = c .before .before .before .before .before .before .before .before .before in
     let k = w .before .before .before .before .before .before .before .before .before .before .before .before in
     rw (w .reconcile-plain .ensures .answered)
-    (run-narrow _ _ _ _ (k .before .before .shared-slice-known .given) (k .before .shared-slice-known2 .given) (k .shared-slice-known3 .given))
+    (run-narrow _ _ _ _ _ (k .before .before .shared-slice-known .given) (k .before .shared-slice-known2 .given) (k .shared-slice-known3 .given))
 
 returns : tie.Need-returns
 returns c =
     let w = c .before .before .before .before .before .before .before .before .before .before .before in
-    reconcile-call _ _ _ _ _ _ _ _ (w .reconcile-plain .result .tally) (w .reconcile-plain .result .answer) _ (w .reconcile-plain .ensures) (c .before .reconciled-words .ensures)
+    reconcile-call _ _ _ _ _ _ _ _ _ (w .reconcile-plain .result .tally) (w .reconcile-plain .result .answer) _ (w .reconcile-plain .ensures) (c .before .reconciled-words .ensures)
 
 pub kantifero-reconcile-spec : {M : Type 1} → statement M
 kantifero-reconcile-spec =

@@ -11,7 +11,7 @@ use Rattle.kantifero.proofs.kantifero_write.Tie as tie
 answer-words-requires : tie.Need-answer-words-requires
 answer-words-requires c κs =
     let a = c .before .before .before .before .before .before .args in
-    omega (arith, c .before .before .write .ensures .says .place-due, write-place (a .table .now) (length (a .text .now)))
+    omega (arith, c .before .before .write .ensures .says .place-due, write-place _ (a .table .now) (length (a .text .now)))
 
 returns : tie.Need-returns
 returns c =
@@ -20,4 +20,4 @@ returns c =
 
 pub kantifero-write-spec : {M : Type 1} → statement M
 kantifero-write-spec =
-    tie.close (tie.spec (λ c κs. search needs) answer-words-requires (λ c. search needs) returns)
+    tie.close (tie.spec (λ c κs. search needs) (λ c κs. search needs) answer-words-requires (λ c. search needs) returns)

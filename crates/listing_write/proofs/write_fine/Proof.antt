@@ -8,7 +8,7 @@ use Prim.Native.Nat.{ℕ}
 use borrow.Author.Needs.{needs}
 use Rattle.row.specs.Tree.{treeOf}
 use Rattle.listing.specs.Writing.{textOf}
-use Rattle.rules.proofs.Keyed.{passed-words, passed-rows, passed-formed}
+use Rattle.rules.proofs.Passed.{passed-words, passed-rows, passed-formed}
 use Rattle.rules.proofs.Small.{small-all}
 use Rattle.spell.proofs.Poured.{poured-empty, poured-over}
 use Rattle.listing_write.specs.Rows.{textByRows}

@@ -1,7 +1,7 @@
 -- `reconcile::with_plan` meets its contract: the plan is long enough, the rooms are tried, and what is written is the outcome.
 use native.Mathlib.Omega.{arith}
 use borrow.Author.Needs.{needs}
-use Rattle.rules.proofs.Keyed.{passed-some}
+use Rattle.rules.proofs.Passed.{passed-some}
 use Rattle.reconcile.specs.Run.{lent}
 use Rattle.reconcile.proofs.Planned.{Sound, three, settled-fits, items-most}
 use Rattle.reconcile.proofs.Steps.{Tried, spacious, entries, settles-accepted, settles-refused}
