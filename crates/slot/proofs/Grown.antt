@@ -9,10 +9,9 @@ use Prim.Native.Nat.{ℕ, suc, _+_, _*_, _-_, _≤_, Ordering, Ordering·lt, Ord
 use Rattle.tree.specs.Name.{Name, cmp, byOrder}
 use Rattle.tree.specs.Forest.{Content, Forest, Forest.end, Forest.leaf, Forest.dir, Node, Node.absent, Node.file, Node.folder, Present, Sorted, TreePath, add, at, kids, size}
 use Rattle.tree.specs.Put.{update, Reaches}
-use Rattle.tree.specs.Rules.{NameRule, ContentRule, Within}
 use Rattle.tree.specs.declared.Profile.{Profile}
 use Rattle.tree.specs.Key.{key, fold, foldPath, FormedIn, putIn}
-use Rattle.row.specs.Table.{Row, flat}
+use Rattle.row.specs.Table.{Row, rows, flat}
 use Rattle.row.specs.Tree.{fileRow, folderRow, nodeRows, rowsOf, rootName, table}
 use Rattle.row.specs.Buffer.{written}
 use Rattle.stands.specs.Stands.{Holds}
@@ -22,8 +21,8 @@ use Rattle.tree.proofs.Order.{cmp-refl}
 use Rattle.tree.proofs.Put.{find-update-same}
 use Rattle.tree.proofs.Spots.{path-append, putIn-folder}
 use Rattle.row.proofs.Table.{drop-take}
-use Rattle.row.proofs.Flat.{Whole, flat-append, length-flat}
-use Rattle.row.proofs.Tree.{whole-rowsOf}
+use Rattle.row.proofs.Flat.{Whole, flat-append, length-flat, whole-rows}
+use Rattle.row.proofs.Tree.{length-table, rows-table}
 use Rattle.stands.proofs.Rows.{cut, whole-front}
 use Rattle.stands.proofs.Path.{leads, ruled-at}
 use Rattle.stands.proofs.Put.{place-entry, at-entry}
@@ -81,10 +80,6 @@ spot-entry q m k w d root x h e last l =
     (spot-found w (rowIn x q) (d + length q) (nameOn root q) k (rw e at (leads q w d root x h (rw e tt) .stands))
     (rw e at (ruled-at q x (h .ruled))) (rw e at (sorted-at q x (h .sorted))) m last l)
 
-whole-tree : (f : Forest) → Within NameRule ContentRule 16 f → Whole (nodeRows 0 rootName (folder f))
-unfolding Whole nodeRows
-whole-tree f h = (refl, whole-rowsOf 16 1 f h)
-
 -- THE TABLE OF A TREE WITH AN ENTRY MORE, called m in the folder at the path q: its row at the place of its key
 module _ (p : Profile) (q : TreePath) (m : Name) (f : Forest) (y : Node) (w : List ℕ) (n : ℕ) (r : Row) where
   abbrev keys : TreePath
@@ -102,7 +97,8 @@ module _ (p : Profile) (q : TreePath) (m : Name) (f : Forest) (y : Node) (w : Li
       let h = parted p q m y 0 rootName (folder f) (good .sorted) (rw k there) (rw k none) in
       let a = h .front in
       let c = h .back in
-      let v : Whole (a ++ c) = rw (h .are) at (whole-tree f (good .within)) in
+      let u : Whole (rows (table f)) = whole-rows (table f) (let l = length-table f (good .within) in omega arith) in
+      let v : Whole (a ++ c) = rw (rows-table f (good .within) ∙ h .are) at u in
       let i : length (flat a) ≡ 20 * row = length-flat a (whole-front a c v) ∙ rw (h .place, k) in
       let z = cut (take n w) (flat a) [] (flat c) (20 * row) (20 * row) (used ∙ ap flat (h .are) ∙ flat-append a c) i (omega arith) in
       let b = nodeRows (0 + suc (length q)) m y in

@@ -62,17 +62,17 @@ module _ (p : Profile) (w : List ℕ) (i : ℕ) where
   keyed-cons h = rw (rows-keyed p w, drop-map (keyedRow p) i (rows w), drop-map (keyedRow p) (suc i) (rows w), rows-cons w i h)
 
   module _ (h : 20 * (i + 1) ≤ length w) where
-    pub has : HasKey p (rowAt w i)
-    has = has-key p (rowAt w i) (simp (length-take, length-drop) (omega arith))
+    pub row-has-key : HasKey p (rowAt w i)
+    row-has-key = has-key p (rowAt w i) (simp (length-take, length-drop) (omega arith))
 
     pub row-keyed : rowAt (keyed p w) i ≡ keyedRow p (rowAt w i)
     row-keyed = head (keyed p w) i (keyedRow p (rowAt w i)) (drop (suc i) (rows (keyed p w))) (keyed-cons (omega arith)) .row
 
     pub name-keyed : name (rowAt (keyed p w) i) ≡ key p (namePart w i)
-    name-keyed = rw (row-keyed, has .name-is, name-part w i)
+    name-keyed = rw (row-keyed, row-has-key .name-is, name-part w i)
 
     pub depth-keyed : depth (rowAt (keyed p w) i) ≡ getD w (20 * i) 0
-    depth-keyed = rw (row-keyed, has .depth-is, depth-at)
+    depth-keyed = rw (row-keyed, row-has-key .depth-is, depth-at)
 
 pub start-past : (p : Profile) (w : List ℕ) (f last : ℕ) (n : Name) (o : Order) → o ≡ ordered (cmp (key p n) (key p (namePart w last))) → f < last
     → 20 * (last + 1) ≤ length w → startOf (keyed p w) f last (key p n) ≡ byAnswer o (f + 1) (f + 1) (last + 1)

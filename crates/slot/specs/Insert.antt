@@ -1,4 +1,5 @@
--- Where an entry goes among the entries of its folder, and the words of a table with its row put in.
+-- Where an entry goes among the entries of its folder, and the words of a table with its row put in. Names are matched by key,
+-- so that it is a table of keys that is searched, for a key.
 use mathlib.Core.Path.{_≡_}
 use mathlib.Core.List.{List, [], _∷_, _++_}
 use mathlib.Core.Bool.{cond}

@@ -9,7 +9,7 @@ use Rattle.row.specs.Table.{rowAt, depth, name}
 use Rattle.row.specs.Order.{ordered}
 use Rattle.row.specs.Keyed.{keyedRow}
 use Rattle.row.proofs.Table.{depth-at, name-part}
-use Rattle.slot.proofs.Search.{has, namePart, against-over, against-entry, against-deep}
+use Rattle.slot.proofs.Search.{row-has-key, namePart, against-over, against-entry, against-deep}
 use Rattle.slot.proofs.against.Statement.{statement}
 use Rattle.slot.proofs.against.Tie as tie
 
@@ -17,7 +17,7 @@ returns : tie.Need-returns
 returns c =
     let s = c .before .before .before in
     let a = s .args in
-    let k = has (a .profile) (a .t .now) (a .i) (s .pre) in
+    let k = row-has-key (a .profile) (a .t .now) (a .i) (s .pre) in
     sym (ap ordered (against-over (a .d) (key (a .profile) (a .t5)) (keyedRow (a .profile) (rowAt (a .t .now) (a .i))) (rw (k .depth-is, depth-at) (c .if1 .taken))))
 
 returns-2 : tie.Need-returns-2
@@ -26,7 +26,7 @@ returns-2 c =
     let b = s .before .before .before .before in
     let a = b .args in
     let r = keyedRow (a .profile) (rowAt (a .t .now) (a .i)) in
-    let k = has (a .profile) (a .t .now) (a .i) (b .pre) in
+    let k = row-has-key (a .profile) (a .t .now) (a .i) (b .pre) in
     let e : depth r ≡ suc (a .d) = rw (k .depth-is, depth-at) (let z = s .if2 .taken in omega arith) in
     let n : key (a .profile) (namePart (a .t .now) (a .i)) ≡ name r = rw (name-part (a .t .now) (a .i)) (sym (k .name-is)) in
     c .compare-keys .ensures ∙ ap ordered (ap (cmp (key (a .profile) (a .t5))) n ∙ sym (against-entry (a .d) (key (a .profile) (a .t5)) r e))
@@ -36,7 +36,7 @@ returns-3 c =
     let b = c .before .before .before .before in
     let a = b .args in
     let r = keyedRow (a .profile) (rowAt (a .t .now) (a .i)) in
-    let k = has (a .profile) (a .t .now) (a .i) (b .pre) in
+    let k = row-has-key (a .profile) (a .t .now) (a .i) (b .pre) in
     let g : a .d < depth r = rw (k .depth-is, depth-at) (let z = c .before .if1 .left in omega arith) in
     sym (ap ordered (against-deep (a .d) (key (a .profile) (a .t5)) r g (rw (k .depth-is, depth-at) (λ e. c .if2 .left (omega arith)))))
 
