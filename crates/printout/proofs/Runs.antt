@@ -1,5 +1,5 @@
 -- Three tables of at most 128 rows: 382 rows and as many entries hold every result, and the list's text is short.
-use mathlib.Core.Path.{_≡_}
+use mathlib.Core.Path.{_≡_, _∙_}
 use mathlib.Core.List.{List}
 use native.Mathlib.Omega.{arith}
 use lib.ListN.{length, take}
@@ -92,20 +92,36 @@ module _ (p : Profile) (o l r : List ℕ) (O : IsTable p o) (L : IsTable p l) (R
   sum : size fo + size fl + size fr ≤ 381
   sum = omega (arith, few p o O, few p l L, few p r R, size-fold p (treeOf o), size-fold p (treeOf l), size-fold p (treeOf r))
 
+  -- spelling changes no size
+  archive-size : size (newArchiveIn p (treeOf o) (treeOf l) (treeOf r)) ≡ size (newArchive fo fl fr)
+  unfolding newArchiveIn
+  archive-size = size-respell p _ _ ∙ size-respell p _ _
+
+  left-size : size (newLeftIn p (treeOf o) (treeOf l) (treeOf r)) ≡ size (newLeft fo fl fr)
+  unfolding newLeftIn
+  left-size = size-respell p _ _ ∙ size-respell p _ _
+
+  right-size : size (newRightIn p (treeOf o) (treeOf l) (treeOf r)) ≡ size (newRight fo fl fr)
+  unfolding newRightIn
+  right-size = size-respell p _ _ ∙ size-respell p _ _
+
   room : (b : Lent) → Ample b → Room (given p o l r) b
-  unfolding newArchive newLeft newRight newArchiveIn newLeftIn newRightIn
+  unfolding newArchive newLeft newRight
   room b A =
       let h = sum in
       let x = result-bound forArchive (takes-by forArchive (λ x y z. (omega arith, omega arith, omega arith, omega arith))) fo fl fr so sl sr in
       let y = result-bound forLeft (takes-by forLeft (λ x y z. (omega arith, omega arith, omega arith, omega arith))) fo fl fr so sl sr in
       let z = result-bound forRight (takes-by forRight (λ x y z. (omega arith, omega arith, omega arith, omega arith))) fo fl fr so sl sr in
       let n = lines-bound fo fl fr so sl sr in
-      rw (size-respell, size-respell, size-respell, size-respell, size-respell, size-respell) (record {
+      let u = archive-size in
+      let v = left-size in
+      let w = right-size in
+      record {
         archive = (omega arith, rw (A .archive) (omega arith));
         left = (omega arith, rw (A .left) (omega arith));
         right = (omega arith, rw (A .right) (omega arith));
         list = rw (A .list) (omega arith);
-      })
+      }
 
   -- the run is accepted
   module _ (b a : Lent) (A : Ample b) (answer : Reconciled) (C : ReconcileContract p o l r b a answer) where

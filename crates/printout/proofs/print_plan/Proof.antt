@@ -10,41 +10,41 @@ use Rattle.printout.proofs.print_plan.Statement.{statement}
 use Rattle.printout.proofs.print_plan.Tie as tie
 
 -- the files that are taken
-archive-read : (c : tie.After-a) → Taken (c .before .before .before .before .before .before .before .before .before .before .before .before .before .before .before .args .profile) (fileRead (c .before .before .before .before .before .before .before .before .before .before .before .before .before .before .before .args .profile) (c .before .before .before .before .before .before .before .before .before .before .before .before .before .before .before .args .archive .now)) (c .before .before .before .before .before .before .before .before .before .read-file .last .1 .0) (c .a .given .0 .0)
+archive-read : (c : tie.After-a) → Taken (c .before .before .before .before .before .before .before .before .before .before .before .before .before .before .before .args .profile) (fileRead (c .before .before .before .before .before .before .before .before .before .before .before .before .before .before .before .args .profile) (c .before .before .before .before .before .before .before .before .before .before .before .before .before .before .before .args .archive .now)) (c .before .before .before .before .before .before .before .before .before .read-file .last .1 .1 .0) (c .a .given .0 .0)
 archive-read c = taken _ _ _ _ _ (c .before .before .before .before .before .before .before .before .before .read-file .ensures) (c .a .given .1)
 
-left-read : (c : tie.After-b) → Taken (c .before .before .before .before .before .before .before .before .before .before .before .before .before .before .before .before .before .before .args .profile) (fileRead (c .before .before .before .before .before .before .before .before .before .before .before .before .before .before .before .before .before .before .args .profile) (c .before .before .before .before .before .before .before .before .before .before .before .before .before .before .before .before .before .before .args .left .now)) (c .before .before .before .before .before .before .before .before .before .read-file2 .last .1 .0) (c .b .given .0 .0)
+left-read : (c : tie.After-b) → Taken (c .before .before .before .before .before .before .before .before .before .before .before .before .before .before .before .before .before .before .args .profile) (fileRead (c .before .before .before .before .before .before .before .before .before .before .before .before .before .before .before .before .before .before .args .profile) (c .before .before .before .before .before .before .before .before .before .before .before .before .before .before .before .before .before .before .args .left .now)) (c .before .before .before .before .before .before .before .before .before .read-file2 .last .1 .1 .0) (c .b .given .0 .0)
 left-read c = taken _ _ _ _ _ (c .before .before .before .before .before .before .before .before .before .read-file2 .ensures) (c .b .given .1)
 
-right-read : (c : tie.After-c) → Taken (c .before .before .before .before .before .before .before .before .before .before .before .before .before .before .before .before .before .before .before .before .before .args .profile) (fileRead (c .before .before .before .before .before .before .before .before .before .before .before .before .before .before .before .before .before .before .before .before .before .args .profile) (c .before .before .before .before .before .before .before .before .before .before .before .before .before .before .before .before .before .before .before .before .before .args .right .now)) (c .before .before .before .before .before .before .before .before .before .read-file3 .last .1 .0) (c .c .given .0 .0)
+right-read : (c : tie.After-c) → Taken (c .before .before .before .before .before .before .before .before .before .before .before .before .before .before .before .before .before .before .before .before .before .args .profile) (fileRead (c .before .before .before .before .before .before .before .before .before .before .before .before .before .before .before .before .before .before .before .before .before .args .profile) (c .before .before .before .before .before .before .before .before .before .before .before .before .before .before .before .before .before .before .before .before .before .args .right .now)) (c .before .before .before .before .before .before .before .before .before .read-file3 .last .1 .1 .0) (c .c .given .0 .0)
 right-read c = taken _ _ _ _ _ (c .before .before .before .before .before .before .before .before .before .read-file3 .ensures) (c .c .given .1)
 
 mul-o : tie.Need-mul-o
 mul-o c = let h = archive-read (c .before .before .before .before .before .before .before .before) .few in omega arith
 
 array-share-prefix-o : tie.Need-array-share-prefix-o
-array-share-prefix-o c = taken-part (archive-read (c .before .before .before .before .before .before .before .before)) (c .before .before .before .before .before .before .before .before .before .before .before .before .before .before .before .before .before .read-file .kept .1 .0) (length-replicate {A = ℕ} 2560 0) .0
+array-share-prefix-o c = taken-part (archive-read (c .before .before .before .before .before .before .before .before)) (c .before .before .before .before .before .before .before .before .before .before .before .before .before .before .before .before .before .read-file .kept .1 .1 .0) (length-replicate {A = ℕ} 2560 0) .0
 
 slice-aggregate-put-run : tie.Need-slice-aggregate-put-run
-slice-aggregate-put-run c = taken-part (archive-read (c .before .before .before .before .before .before .before .before .before)) (c .before .before .before .before .before .before .before .before .before .before .before .before .before .before .before .before .before .before .read-file .kept .1 .0) (length-replicate {A = ℕ} 2560 0) .1
+slice-aggregate-put-run c = taken-part (archive-read (c .before .before .before .before .before .before .before .before .before)) (c .before .before .before .before .before .before .before .before .before .before .before .before .before .before .before .before .before .before .read-file .kept .1 .1 .0) (length-replicate {A = ℕ} 2560 0) .1
 
 mul-l : tie.Need-mul-l
 mul-l c = let h = left-read (c .before .before .before .before .before .before) .few in omega arith
 
 array-share-prefix-l : tie.Need-array-share-prefix-l
-array-share-prefix-l c = taken-part (left-read (c .before .before .before .before .before .before)) (c .before .before .before .before .before .before .before .before .before .before .before .before .before .before .before .read-file2 .kept .1 .0) (length-replicate {A = ℕ} 2560 0) .0
+array-share-prefix-l c = taken-part (left-read (c .before .before .before .before .before .before)) (c .before .before .before .before .before .before .before .before .before .before .before .before .before .before .before .read-file2 .kept .1 .1 .0) (length-replicate {A = ℕ} 2560 0) .0
 
 slice-aggregate-put-run-2 : tie.Need-slice-aggregate-put-run-2
-slice-aggregate-put-run-2 c = taken-part (left-read (c .before .before .before .before .before .before .before)) (c .before .before .before .before .before .before .before .before .before .before .before .before .before .before .before .before .read-file2 .kept .1 .0) (length-replicate {A = ℕ} 2560 0) .1
+slice-aggregate-put-run-2 c = taken-part (left-read (c .before .before .before .before .before .before .before)) (c .before .before .before .before .before .before .before .before .before .before .before .before .before .before .before .before .read-file2 .kept .1 .1 .0) (length-replicate {A = ℕ} 2560 0) .1
 
 mul-r : tie.Need-mul-r
 mul-r c = let h = right-read (c .before .before .before .before) .few in omega arith
 
 array-share-prefix-r : tie.Need-array-share-prefix-r
-array-share-prefix-r c = taken-part (right-read (c .before .before .before .before)) (c .before .before .before .before .before .before .before .before .before .before .before .before .before .read-file3 .kept .1 .0) (length-replicate {A = ℕ} 2560 0) .0
+array-share-prefix-r c = taken-part (right-read (c .before .before .before .before)) (c .before .before .before .before .before .before .before .before .before .before .before .before .before .read-file3 .kept .1 .1 .0) (length-replicate {A = ℕ} 2560 0) .0
 
 slice-aggregate-put-run-3 : tie.Need-slice-aggregate-put-run-3
-slice-aggregate-put-run-3 c = taken-part (right-read (c .before .before .before .before .before)) (c .before .before .before .before .before .before .before .before .before .before .before .before .before .before .read-file3 .kept .1 .0) (length-replicate {A = ℕ} 2560 0) .1
+slice-aggregate-put-run-3 c = taken-part (right-read (c .before .before .before .before .before)) (c .before .before .before .before .before .before .before .before .before .before .before .before .before .before .read-file3 .kept .1 .1 .0) (length-replicate {A = ℕ} 2560 0) .1
 
 put-run-requires : tie.Need-put-run-requires
 put-run-requires c κs = (archive-read (c .before .before .before .before .before .before .before .before .before .before .before) .table, left-read (c .before .before .before .before .before .before .before .before) .table, right-read (c .before .before .before .before .before) .table)

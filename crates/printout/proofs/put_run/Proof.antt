@@ -23,8 +23,8 @@ few c =
     let s = c .before .before .before .before .before .before .before .before .before in
     entries-few (s .args .profile) (s .args .o .now) (s .args .l .now) (s .args .r .now) (s .pre .0) (s .pre .1) (s .pre .2) _ _ (rooms _) _ (c .reconcile-plain .ensures)
 
-long : (c : tie.After-reconcile-plain) → length (c .reconcile-plain .last .1 .1 .1 .1 .1 .1 .0) ≡ 1146
-long c = c .reconcile-plain .kept .1 .1 .1 .1 .1 .1 .0 ∙ length-replicate {A = ℕ} 1146 0
+long : (c : tie.After-reconcile-plain) → length (c .reconcile-plain .last .1 .1 .1 .1 .1 .1 .1 .0) ≡ 1146
+long c = c .reconcile-plain .kept .1 .1 .1 .1 .1 .1 .1 .0 ∙ length-replicate {A = ℕ} 1146 0
 
 mul-end : tie.Need-mul-end
 mul-end c = let n = few (c .before .before .before .before .before .before) in omega arith
