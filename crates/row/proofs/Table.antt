@@ -60,3 +60,9 @@ row-none w i m h = ap (take 20) (drop-of-length-le w {i = 20 * i} (omega arith))
 -- row i, as the part that code lends
 pub row-part : (w : List ℕ) (i : ℕ) → take (20 * i + 20 - 20 * i) (drop (20 * i) w) ≡ rowAt w i
 row-part w i = let e : 20 * i + 20 - 20 * i ≡ 20 = omega arith in rw e
+
+-- the words 10 to 19 of row i, as the part that code lends
+pub tail-part : (w : List ℕ) (i : ℕ) → take (20 * i + 20 - (20 * i + 10)) (drop (20 * i + 10) w) ≡ drop 10 (rowAt w i)
+tail-part w i =
+    let e : 20 * i + 20 - (20 * i + 10) ≡ 10 = omega arith in
+    rw (e, ← drop-drop 10 (20 * i) w) (sym (drop-take 10 10 (drop (20 * i) w)))

@@ -1,12 +1,17 @@
-// The words of a tree table, twenty to a row: one word, the order of two names, copying.
+// The words of a tree table, twenty to a row: one word, the order of two names or of their keys, copying, a table of keys.
+use tree::Profile;
 ghost use mathlib.Core.Path.{_≡_};
-ghost use Prim.Native.Nat.{_+_, _*_, _≤_, _<_};
+ghost use mathlib.Core.List.{map};
+ghost use Prim.Native.Nat.{_+_, _*_, _%_, _≤_, _<_};
 ghost use lib.ListN.{length, getD};
 ghost use Rattle.tree.specs.Name.{cmp};
+ghost use Rattle.tree.specs.declared.Profile.the-variants.{Folded};
+ghost use Rattle.tree.specs.Key.{lower as lowerOf, lowerWord, key};
 ghost use Rattle.tree.specs.Same.{sameWords};
 ghost use Rattle.row.specs.Table.{rowAt, name};
 ghost use Rattle.row.specs.Order.{ordered};
-ghost use Rattle.row.specs.Buffer.{written};
+ghost use Rattle.row.specs.Buffer.{written, over};
+ghost use Rattle.row.specs.Keyed.{keyedRow, keyed};
 
 // How two names stand to each other.
 pub enum Order {
@@ -90,4 +95,111 @@ pub fn copy_words(src: &[u32], dst: &mut [u32], at: usize) -> usize
         i += 1;
     }
     at + src.len()
+}
+
+// A to Z as a to z.
+fn lower(b: u32) -> u32
+    ensures { λ r. ⌜ (r ≡ lowerOf b) × (b < 256 → r < 256) ⌝ }
+{
+    if 65 <= b {
+        if b <= 90 {
+            return b + 32;
+        }
+    }
+    b
+}
+
+// Each of a word's four bytes so.
+fn lower_word(x: u32) -> u32
+    ensures { λ r. ⌜ r ≡ lowerWord x ⌝ }
+{
+    let a = lower(x / 16777216);
+    let b = lower(x / 65536 % 256);
+    let c = lower(x / 256 % 256);
+    let d = lower(x % 256);
+    a * 16777216 + b * 65536 + c * 256 + d
+}
+
+// The order of two lists of as many words where letter case is ignored.
+fn compare_lower(a: &[u32], b: &[u32]) -> Order
+    requires { ⌜ length (now a) ≡ length (now b) ⌝ }
+    ensures { λ r. ⌜ r ≡ ordered (cmp (map lowerWord (now (a .entry))) (map lowerWord (now (b .entry)))) ⌝ }
+{
+    let mut k = 0;
+    while k < a.len() {
+        let x = lower_word(a[k]);
+        let y = lower_word(b[k]);
+        if x < y {
+            return Order::Less;
+        }
+        if y < x {
+            return Order::Greater;
+        }
+        k += 1;
+    }
+    Order::Same
+}
+
+// The order of two names by their keys.
+pub fn compare_keys(profile: Profile, a: &[u32], b: &[u32]) -> Order
+    requires { ⌜ length (now a) ≡ length (now b) ⌝ }
+    ensures { λ r. ⌜ r ≡ ordered (cmp (key profile (now (a .entry))) (key profile (now (b .entry)))) ⌝ }
+{
+    match profile {
+        Profile::Exact => compare_words(a, b),
+        Profile::Folded => compare_lower(a, b),
+    }
+}
+
+// The words of src, letter case ignored, into dst at place at.
+fn copy_lower(src: &[u32], dst: &mut [u32], at: usize)
+    requires { ⌜ at + length (now src) ≤ length (now dst) ⌝ }
+    ensures { λ _. ⌜ now (dst .exit) ≡ written (now (dst .entry)) at (map lowerWord (now (src .entry))) ⌝ }
+{
+    let mut i = 0;
+    while i < src.len() {
+        dst[at + i] = lower_word(src[i]);
+        i += 1;
+    }
+}
+
+// A name's key.
+pub fn key_name(profile: Profile, n: [u32; 8]) -> [u32; 8]
+    ensures { λ r. ⌜ r ≡ key profile n ⌝ }
+{
+    match profile {
+        Profile::Exact => n,
+        Profile::Folded => {
+            let mut k = n;
+            copy_lower(&n, &mut k, 0);
+            k
+        }
+    }
+}
+
+// Row i of t with its name's key where letter case is ignored, as row i of out.
+fn key_row(t: &[u32], i: usize, out: &mut [u32])
+    requires { ⌜ (20 * i + 20 ≤ length (now t)) × (20 * i + 20 ≤ length (now out)) ⌝ }
+    ensures { λ _. ⌜ now (out .exit) ≡ written (now (out .entry)) (20 * i) (keyedRow Folded (rowAt (now (t .entry)) i)) ⌝ }
+{
+    let a = 20 * i;
+    let n = a + 2;
+    let c = a + 10;
+    let e = a + 20;
+    copy_words(&t[a..n], out, a);
+    copy_lower(&t[n..c], out, n);
+    copy_words(&t[c..e], out, c);
+}
+
+// The table of keys of t where letter case is ignored, at the start of out.
+pub fn key_table(t: &[u32], out: &mut [u32])
+    requires { ⌜ (length (now t) % 20 ≡ 0) × (length (now t) ≤ length (now out)) ⌝ }
+    ensures { λ _. ⌜ now (out .exit) ≡ over (now (out .entry)) (keyed Folded (now (t .entry))) ⌝ }
+{
+    let n = t.len() / 20;
+    let mut i = 0;
+    while i < n {
+        key_row(t, i, out);
+        i += 1;
+    }
 }

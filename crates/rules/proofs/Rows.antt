@@ -6,9 +6,8 @@ use native.Mathlib.Omega.{arith}
 use native.Mathlib.Nat.{not-suc-le-zero, add-zero, zero-add}
 use native.Mathlib.Numerals.{add-one, sub-one}
 use lib.Dec.{leb}
-use lib.ListN.{length, take, drop}
-use lib.Seq.{drop-drop}
-use Prim.Native.Nat.{ℕ, zero, suc, _+_, _*_, _-_, _/_, _%_, _≤_, _<_, Ordering, Ordering·lt, Ordering·eq, Ordering·gt}
+use lib.ListN.{length, drop}
+use Prim.Native.Nat.{ℕ, zero, suc, _+_, _-_, _/_, _%_, _≤_, _<_, Ordering, Ordering·lt, Ordering·eq, Ordering·gt}
 use borrow.Author.Tests.{eq-eqb, ne-eqb, lt-ltb, le-ltb, le-leb, lt-leb, leb-true, leb-false}
 use Rattle.tree.specs.Name.{cmp, byOrder}
 use Rattle.tree.specs.Rules.{zeros, goodName}
@@ -17,15 +16,9 @@ use Rattle.row.specs.Order.{ordered}
 use Rattle.row.specs.declared.Order.{Order}
 use Rattle.row.specs.declared.Order.the-variants.{Less, Same, Greater}
 use Rattle.tree.proofs.Order.{compare-refl, compare-below, compare-above}
-use Rattle.row.proofs.Table.{drop-take, rows-cons, rows-nil}
+use Rattle.row.proofs.Table.{rows-cons, rows-nil}
 use Rattle.rules.specs.Rules.{depthRule, kindRule, ascends, okRow, lead, sized, checked, before}
 use Rattle.rules.specs.declared.Checked.the-variants.{Fine, BadLength, BadRow}
-
--- the words 10 to 19 of row i, as the part that code lends
-pub tail-part : (w : List ℕ) (i : ℕ) → take (20 * i + 20 - (20 * i + 10)) (drop (20 * i + 10) w) ≡ drop 10 (rowAt w i)
-tail-part w i =
-    let e : 20 * i + 20 - (20 * i + 10) ≡ 10 = omega arith in
-    rw (e, ← drop-drop 10 (20 * i) w) (sym (drop-take 10 10 (drop (20 * i) w)))
 
 leb-down : (d e : ℕ) → 1 ≤ d → leb (d - 1) e ≡ leb d (e + 1)
 leb-down d e h = go (leb d (e + 1)) refl

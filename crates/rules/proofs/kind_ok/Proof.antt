@@ -2,7 +2,7 @@
 use borrow.Author.Tests.{eq-eqb, ne-eqb}
 use borrow.Author.Needs.{needs}
 use Rattle.rules.specs.Rules.{kindRule}
-use Rattle.rules.proofs.Rows.{tail-part}
+use Rattle.row.proofs.Table.{tail-part}
 use Rattle.rules.proofs.kind_ok.Statement.{statement}
 use Rattle.rules.proofs.kind_ok.Tie as tie
 
