@@ -104,8 +104,7 @@ module _ (p : Profile) where
         let R = ruled-entry K K k (T .ruled) g in
         let f : find K (fold p k) ≡ foldNode p y = sym (entry-fold p K k) ∙ ap (foldNode p) e in
         let a : Stands w r (suc d) l y = subst (Stands w r (suc d) l) e (stands-entry p w i d (T .called-as) k (T .plain) K (T .sorted)) in
-        let b : Stands v r (suc d) K (foldNode p y) = subst (Stands v r (suc d) K) f (stands-child v i d (key p (T .called-as)) (fold p k) (T .keys) K (T .sorted)) in
-        (
+        let b : Stands v r (suc d) K (foldNode p y) = subst (Stands v r (suc d) K) f (stands-child v i d (key p (T .called-as)) (fold p k) (T .keys) K (T .sorted)) in (
           record {
             called-as = l;
             plain = a;

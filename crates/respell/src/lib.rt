@@ -67,14 +67,8 @@ fn spell_row(table: &[u32], found: Found, src: &[u32], result: &mut [u32], at: u
     }
 }
 
-fn spell_rows(
-    table: &[u32],
-    keys: &[u32],
-    f: usize,
-    words: &[u32],
-    result: &mut [u32],
-    at: usize,
-)
+// All rows of words, one after the other; a row's folder is the last row before it that is one less deep.
+fn spell_rows(table: &[u32], keys: &[u32], f: usize, words: &[u32], result: &mut [u32], at: usize)
     requires { ⌜ Fit (now table) (now keys) f (now words) (now result) at ⌝ }
     ensures { λ r. ⌜ now (result .exit) ≡ written (now (result .entry)) at (respelled Folded (now (table .entry)) (now (keys .entry)) f (now (words .entry))) ⌝ }
 {
@@ -86,9 +80,33 @@ fn spell_rows(
         let e = a + 20;
         let d = row::wide(words[a]);
         let folder = opened[d - 1];
-        let found = counterpart(keys, folder, name_of(words, i));
+        let key = row::key_name(Profile::Folded, name_of(words, i));
+        let found = counterpart(keys, folder, key);
         opened[d] = found;
         spell_row(table, found, &words[a..e], result, at + a);
         i += 1;
+    }
+}
+
+// Words as rows among the entries of the folder at row f: as they are, or with the names that the folder has at every depth.
+pub fn put_spelled(
+    profile: Profile,
+    table: &[u32],
+    keys: &[u32],
+    f: usize,
+    words: &[u32],
+    result: &mut [u32],
+    at: usize,
+)
+    requires { ⌜ Fit (now table) (now keys) f (now words) (now result) at ⌝ }
+    ensures { λ r. ⌜ now (result .exit) ≡ written (now (result .entry)) at (respelled profile (now (table .entry)) (now (keys .entry)) f (now (words .entry))) ⌝ }
+{
+    match profile {
+        Profile::Exact => {
+            row::copy_words(words, result, at);
+        }
+        Profile::Folded => {
+            spell_rows(table, keys, f, words, result, at);
+        }
     }
 }

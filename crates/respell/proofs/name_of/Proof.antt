@@ -1,112 +1,9 @@
-use native.Mathlib.Omega.{arith}
+-- `respell::name_of` meets its contract: the eight words of a row's name.
 use borrow.Author.Needs.{needs}
 use Rattle.respell.proofs.Step.{eight-words}
 use Rattle.respell.proofs.name_of.Statement.{statement}
 use Rattle.respell.proofs.name_of.Tie as tie
-use Rattle.respell.proofs.name_of.Reads as reads
-use Rattle.respell.proofs.name_of.Lts as lts
 
--- src/lib.rt:19:13
-mul-a : tie.Need-mul-a
-mul-a c = search needs
-
--- src/lib.rt:19:13
-add-a : tie.Need-add-a
-add-a c = search needs
-
--- src/lib.rt:21:9
-mul-t4 : tie.Need-mul-t4
-mul-t4 c = search needs
-
--- src/lib.rt:21:9
-shared-slice-read-t6 : tie.Need-shared-slice-read-t6
-shared-slice-read-t6 c = search needs
-
--- src/lib.rt:22:11
-add-t7 : tie.Need-add-t7
-add-t7 c = search needs
-
--- src/lib.rt:22:9
-mul-t8 : tie.Need-mul-t8
-mul-t8 c = search needs
-
--- src/lib.rt:22:9
-shared-slice-read-t10 : tie.Need-shared-slice-read-t10
-shared-slice-read-t10 c = search needs
-
--- src/lib.rt:23:11
-add-t11 : tie.Need-add-t11
-add-t11 c = search needs
-
--- src/lib.rt:23:9
-mul-t12 : tie.Need-mul-t12
-mul-t12 c = search needs
-
--- src/lib.rt:23:9
-shared-slice-read-t14 : tie.Need-shared-slice-read-t14
-shared-slice-read-t14 c = search needs
-
--- src/lib.rt:24:11
-add-t15 : tie.Need-add-t15
-add-t15 c = search needs
-
--- src/lib.rt:24:9
-mul-t16 : tie.Need-mul-t16
-mul-t16 c = search needs
-
--- src/lib.rt:24:9
-shared-slice-read-t18 : tie.Need-shared-slice-read-t18
-shared-slice-read-t18 c = search needs
-
--- src/lib.rt:25:11
-add-t19 : tie.Need-add-t19
-add-t19 c = search needs
-
--- src/lib.rt:25:9
-mul-t20 : tie.Need-mul-t20
-mul-t20 c = search needs
-
--- src/lib.rt:25:9
-shared-slice-read-t22 : tie.Need-shared-slice-read-t22
-shared-slice-read-t22 c = search needs
-
--- src/lib.rt:26:11
-add-t23 : tie.Need-add-t23
-add-t23 c = search needs
-
--- src/lib.rt:26:9
-mul-t24 : tie.Need-mul-t24
-mul-t24 c = search needs
-
--- src/lib.rt:26:9
-shared-slice-read-t26 : tie.Need-shared-slice-read-t26
-shared-slice-read-t26 c = search needs
-
--- src/lib.rt:27:11
-add-t27 : tie.Need-add-t27
-add-t27 c = search needs
-
--- src/lib.rt:27:9
-mul-t28 : tie.Need-mul-t28
-mul-t28 c = search needs
-
--- src/lib.rt:27:9
-shared-slice-read-t30 : tie.Need-shared-slice-read-t30
-shared-slice-read-t30 c = search needs
-
--- src/lib.rt:28:11
-add-t31 : tie.Need-add-t31
-add-t31 c = search needs
-
--- src/lib.rt:28:9
-mul-t32 : tie.Need-mul-t32
-mul-t32 c = search needs
-
--- src/lib.rt:28:9
-shared-slice-read-t34 : tie.Need-shared-slice-read-t34
-shared-slice-read-t34 c = search needs
-
--- src/lib.rt:15:1
 returns : tie.Need-returns
 returns c = eight-words _ _ (c .before .before .before .before .before .before .before .before .pre)
 
@@ -114,29 +11,29 @@ pub name-of-spec : {M : Type 1} → statement M
 name-of-spec =
     tie.close
     (tie.spec
-    mul-a
-    add-a
-    mul-t4
-    shared-slice-read-t6
-    add-t7
-    mul-t8
-    shared-slice-read-t10
-    add-t11
-    mul-t12
-    shared-slice-read-t14
-    add-t15
-    mul-t16
-    shared-slice-read-t18
-    add-t19
-    mul-t20
-    shared-slice-read-t22
-    add-t23
-    mul-t24
-    shared-slice-read-t26
-    add-t27
-    mul-t28
-    shared-slice-read-t30
-    add-t31
-    mul-t32
-    shared-slice-read-t34
+    (λ c. search needs)
+    (λ c. search needs)
+    (λ c. search needs)
+    (λ c. search needs)
+    (λ c. search needs)
+    (λ c. search needs)
+    (λ c. search needs)
+    (λ c. search needs)
+    (λ c. search needs)
+    (λ c. search needs)
+    (λ c. search needs)
+    (λ c. search needs)
+    (λ c. search needs)
+    (λ c. search needs)
+    (λ c. search needs)
+    (λ c. search needs)
+    (λ c. search needs)
+    (λ c. search needs)
+    (λ c. search needs)
+    (λ c. search needs)
+    (λ c. search needs)
+    (λ c. search needs)
+    (λ c. search needs)
+    (λ c. search needs)
+    (λ c. search needs)
     returns)
