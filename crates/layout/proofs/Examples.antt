@@ -4,7 +4,7 @@ use mathlib.Core.List.{List, [], _∷_}
 use Prim.Native.Nat.{ℕ}
 use Rattle.tree.specs.Name.{Name, cmp}
 use Rattle.tree.specs.Forest.{Content, Forest.end, at, find, size}
-use Rattle.tree.specs.Put.{put, update}
+use Rattle.tree.specs.Key.{fold, putIn, updateIn}
 use Rattle.tree.specs.Rules.{bytes, goodName, zeroFilled, zeros}
 use Rattle.tree.specs.Same.{sameWords}
 use Rattle.listing.specs.Bytes.{text, classOf, digitValue}
@@ -35,8 +35,8 @@ within-first =
     []
 
 pub example-holds : ExampleHolds
-unfolding cmp at find put update bytes goodName zeroFilled zeros sameWords classOf digitValue lenIn linesFrom isText keyLen span values wordsFrom decodeFrom isName packed decimalFrom digits hexBytes isDigest isSize entryOf typeIn size closeLine entryLine placed rootLine setLine slashLine unsetLine wordsDo wholeFrom through saidBy
-example-holds =
+unfolding cmp at find fold putIn updateIn bytes goodName zeroFilled zeros sameWords classOf digitValue lenIn linesFrom isText keyLen span values wordsFrom decodeFrom isName packed decimalFrom digits hexBytes isDigest isSize entryOf typeIn size closeLine entryLine placed rootLine setLine slashLine unsetLine wordsDo wholeFrom through saidBy
+example-holds p =
     reordered (swapped top first second bottom (record {
       whole-a = refl;
       whole-x = refl;

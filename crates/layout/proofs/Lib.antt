@@ -6,6 +6,7 @@ pub mod Said
 pub mod Sorts
 pub mod Known
 pub mod Good
+pub mod Siblings
 pub mod Fill
 pub mod Place
 pub mod Blocks

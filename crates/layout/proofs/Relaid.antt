@@ -13,8 +13,8 @@ alike-accepted f (refused n i) h = absurd h
 alike-accepted f (accepted g) h = cc
 
 pub layout-changes-nothing : LayoutChangesNothing
-layout-changes-nothing t u room f as-is e = e
-layout-changes-nothing t u room f (respaced {u = v} fv same r) e =
-    layout-changes-nothing v u room f r
-    (alike-accepted f (reading v room) (subst (λ (x : Outcome). Alike x (reading v room)) e (words-decide t v room (passed t room f e .form) fv same)))
-layout-changes-nothing t u room f (reordered {u = v} o r) e = layout-changes-nothing v u room f r (order-changes-nothing t v room f o e)
+layout-changes-nothing p t u room f as-is e = e
+layout-changes-nothing p t u room f (respaced {u = v} fv same r) e =
+    layout-changes-nothing p v u room f r
+    (alike-accepted f (reading p v room) (subst (λ (x : Outcome). Alike x (reading p v room)) e (words-decide p t v room (passed p t room f e .form) fv same)))
+layout-changes-nothing p t u room f (reordered {u = v} o r) e = layout-changes-nothing p v u room f r (order-changes-nothing p t v room f o e)

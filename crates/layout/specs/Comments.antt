@@ -5,6 +5,7 @@ use mathlib.Core.Bool.{Bool, true, cond, _&&_}
 use lib.Dec.{eqb, leb}
 use lib.ListN.{length, getD}
 use Prim.Native.Nat.{ℕ, _+_, _≤_}
+use Rattle.tree.specs.declared.Profile.{Profile}
 use Rattle.listing.specs.Words.{Words, words}
 use Rattle.listing.specs.Reading.{Outcome, Outcome.refused, Outcome.accepted, reading}
 use Rattle.scan.specs.Places.{lineEnds}
@@ -28,5 +29,5 @@ later k d (accepted f) = accepted f
 -- whole lines c that are blank or comments, of any bytes, put between whole lines a and any text b
 abbrev pub CommentsChangeNothing : Type 0
 CommentsChangeNothing =
-    (a c b : List ℕ) (room : ℕ) → whole a ≡ true → whole c ≡ true → allSilent (pieces c) ≡ true → length (a ++ (c ++ b)) ≤ 65536
-    → reading (a ++ (c ++ b)) room ≡ later (lineEnds a) (lineEnds c) (reading (a ++ b) room)
+    (p : Profile) (a c b : List ℕ) (room : ℕ) → whole a ≡ true → whole c ≡ true → allSilent (pieces c) ≡ true → length (a ++ (c ++ b)) ≤ 65536
+    → reading p (a ++ (c ++ b)) room ≡ later (lineEnds a) (lineEnds c) (reading p (a ++ b) room)

@@ -1,6 +1,7 @@
--- One tree in two layouts.
+-- One tree in two layouts, in each profile.
 use mathlib.Core.List.{List, _++_}
 use Prim.Native.Nat.{ℕ}
+use Rattle.tree.specs.declared.Profile.{Profile}
 use Rattle.listing.specs.Bytes.{text}
 use Rattle.layout.specs.Relaid.{Relaid}
 
@@ -24,4 +25,4 @@ loose =
     ++ text "a\n/set type=file\nf size=1 \\\n  sha256digest=00112233445566778899aabbccddeeff0123456789ABCDEFfedcba9876543210\n..\n# after a\n..\n"
 
 abbrev pub ExampleHolds : Type 0
-ExampleHolds = Relaid 20 (top ++ (first ++ (second ++ bottom))) loose
+ExampleHolds = (p : Profile) → Relaid p 20 (top ++ (first ++ (second ++ bottom))) loose

@@ -3,6 +3,7 @@ use mathlib.Core.Path.{_≡_}
 use mathlib.Core.List.{List, [], _∷_}
 use mathlib.Core.Bool.{true, cond}
 use Prim.Native.Nat.{ℕ}
+use Rattle.tree.specs.declared.Profile.{Profile}
 use Rattle.listing.specs.Words.{Words, words}
 use Rattle.listing.specs.Reading.{Outcome, Outcome.refused, Outcome.accepted, hasForm, reading}
 use Rattle.layout.specs.Whole.{pieces}
@@ -24,4 +25,5 @@ Alike (accepted f) (accepted g) = f ≡ g
 
 -- spaces, tabs, joined lines, comments and blank lines say nothing
 abbrev pub WordsDecide : Type 0
-WordsDecide = (t u : List ℕ) (room : ℕ) → hasForm t ≡ true → hasForm u ≡ true → said t ≡ said u → Alike (reading t room) (reading u room)
+WordsDecide =
+    (p : Profile) (t u : List ℕ) (room : ℕ) → hasForm t ≡ true → hasForm u ≡ true → said t ≡ said u → Alike (reading p t room) (reading p u room)

@@ -9,6 +9,7 @@ use Rattle.tree.specs.Name.{Name}
 use Rattle.tree.specs.Forest.{Forest, TreePath}
 use Rattle.tree.specs.Rules.{NameRule}
 use Rattle.tree.specs.Same.{sameWords}
+use Rattle.tree.specs.declared.Profile.{Profile}
 use Rattle.listing.specs.Accepted.{AcceptedFits, Fit, GoodState, GoodStep, Inside}
 use Rattle.listing.specs.Bytes.{text}
 use Rattle.listing.specs.Lines.{Line, lines}
@@ -20,60 +21,60 @@ use Rattle.listing.proofs.Ruled.{name-rule}
 use Rattle.listing.proofs.Entered.{good-placed, one-row}
 use Rattle.listing.proofs.Kept.{GoodEntry, entry-good, good-closing, good-cond, good-root, good-slash}
 
-abbrev GoodOutcome : ℕ → Outcome → Type 0
-GoodOutcome most (refused n line) = Unit {0}
-GoodOutcome most (accepted f) = Fit most f
+abbrev GoodOutcome : Profile → ℕ → Outcome → Type 0
+GoodOutcome p most (refused n line) = Unit {0}
+GoodOutcome p most (accepted f) = Fit p most f
 
-module _ (most : ℕ) where
-  good-entered : (n : Name) (x : Entry) (f : Forest) (p : TreePath) (ds : List Said) → NameRule n → GoodEntry x → Inside most f p ds
-      → GoodStep most (entered most n x f p ds)
-  good-entered n (faulty k) f p ds rule g h = tt
-  good-entered n (holds x) f p ds rule g h = good-placed most n x f p ds rule (one-row x g) h
+module _ (p : Profile) (most : ℕ) where
+  good-entered : (n : Name) (x : Entry) (f : Forest) (q : TreePath) (ds : List Said) → NameRule n → GoodEntry x → Inside p most f q ds
+      → GoodStep p most (entered p most n x f q ds)
+  good-entered n (faulty k) f q ds rule g h = tt
+  good-entered n (holds x) f q ds rule g h = good-placed p most n x f q ds rule (one-row x g) h
 
-  good-entry : (w : List ℕ) (ws : Words) (s : State) → GoodState most s → GoodStep most (entryLine most w ws s)
+  good-entry : (w : List ℕ) (ws : Words) (s : State) → GoodState p most s → GoodStep p most (entryLine p most w ws s)
   unfolding entryLine entryOf
   good-entry w ws (before d) h = tt
-  good-entry w ws (inside f p ds) h = go (isName w) refl
+  good-entry w ws (inside f q ds) h = go (isName w) refl
     where
-      go : (t : Bool) → isName w ≡ t → GoodStep most (cond t (entered most (nameOf w) (entryOf (inForce ds) ws) f p ds) (stops 8))
-      go true e = good-entered (nameOf w) (entryOf (inForce ds) ws) f p ds (name-rule w e) (entry-good (typeIn (inForce ds) ws) ws) h
+      go : (t : Bool) → isName w ≡ t → GoodStep p most (cond t (entered p most (nameOf w) (entryOf (inForce ds) ws) f q ds) (stops 8))
+      go true e = good-entered (nameOf w) (entryOf (inForce ds) ws) f q ds (name-rule w e) (entry-good (typeIn (inForce ds) ws) ws) h
       go false e = tt
   good-entry w ws (closed f) h = tt
 
-  pub good-words : (t : Bool) (ws : Words) (s : State) → GoodState most s → GoodStep most (wordsDo most t ws s)
+  pub good-words : (t : Bool) (ws : Words) (s : State) → GoodState p most s → GoodStep p most (wordsDo p most t ws s)
   unfolding wordsDo
   good-words t [] s h = h
   good-words t (w ∷ ws) s h =
-      good-cond most (eqb (getD w 0 0) 35) (goes s) _ h
-      (good-cond most t _ (stops 7)
-      (good-cond most (eqb (getD w 0 0) 47) _ _ (good-slash most w ws s h)
-      (good-cond most (sameWords w (text "..")) _ _ (good-closing most ws s h)
-      (good-cond most (sameWords w (text ".")) _ _ (good-root most ws s) (good-entry w ws s h))))
+      good-cond p most (eqb (getD w 0 0) 35) (goes s) _ h
+      (good-cond p most t _ (stops 7)
+      (good-cond p most (eqb (getD w 0 0) 47) _ _ (good-slash p most w ws s h)
+      (good-cond p most (sameWords w (text "..")) _ _ (good-closing p most ws s h)
+      (good-cond p most (sameWords w (text ".")) _ _ (good-root p most ws s) (good-entry w ws s h))))
       tt)
 
-  good-end : (s : State) → GoodState most s → GoodOutcome most (ended s)
+  good-end : (s : State) → GoodState p most s → GoodOutcome p most (ended s)
   good-end (before d) h = tt
-  good-end (inside f p ds) h = h .fit
+  good-end (inside f q ds) h = h .fit
   good-end (closed f) h = h
 
-  good-run : (ls : List Line) (s : State) → GoodState most s → GoodOutcome most (run most ls s)
+  good-run : (ls : List Line) (s : State) → GoodState p most s → GoodOutcome p most (run p most ls s)
   unfolding run
   good-run [] s h = good-end s h
-  good-run (l ∷ ls) s h = go (lineDoes most (l .bytes) s) (good-words (isText (l .bytes)) (words (l .bytes)) s h) (good-run ls)
+  good-run (l ∷ ls) s h = go (lineDoes p most (l .bytes) s) (good-words (isText (l .bytes)) (words (l .bytes)) s h) (good-run ls)
     where
-      go : (x : Step) → GoodStep most x → ((t : State) → GoodState most t → GoodOutcome most (run most ls t))
-          → GoodOutcome most (onStep x (l .number) (λ t. run most ls t))
+      go : (x : Step) → GoodStep p most x → ((t : State) → GoodState p most t → GoodOutcome p most (run p most ls t))
+          → GoodOutcome p most (onStep x (l .number) (λ t. run p most ls t))
       go (stops n) g k = tt
       go (goes t) g k = k t g
 
-good-reading : (t : List ℕ) (room : ℕ) → GoodOutcome (mostRows room) (reading t room)
+good-reading : (p : Profile) (t : List ℕ) (room : ℕ) → GoodOutcome p (mostRows room) (reading p t room)
 unfolding reading
-good-reading t room = go (hasForm t) (good-run (mostRows room) (lines t) (before none) tt)
+good-reading p t room = go (hasForm t) (good-run p (mostRows room) (lines t) (before none) tt)
   where
-    go : (b : Bool) → GoodOutcome (mostRows room) (run (mostRows room) (lines t) (before none))
-        → GoodOutcome (mostRows room) (cond b (run (mostRows room) (lines t) (before none)) (refused 6 0))
+    go : (b : Bool) → GoodOutcome p (mostRows room) (run p (mostRows room) (lines t) (before none))
+        → GoodOutcome p (mostRows room) (cond b (run p (mostRows room) (lines t) (before none)) (refused 6 0))
     go true h = h
     go false h = tt
 
 pub accepted-fits : AcceptedFits
-accepted-fits t room f e = subst (GoodOutcome (mostRows room)) e (good-reading t room)
+accepted-fits p t room f e = subst (GoodOutcome p (mostRows room)) e (good-reading p t room)

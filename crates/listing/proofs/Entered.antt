@@ -1,7 +1,7 @@
 -- An entry put into the folder last opened keeps what is known of the state.
 use mathlib.Core.Bool.{Bool, cond, false, false≢true, true}
 use mathlib.Core.List.{List, [], _++_, _∷_}
-use mathlib.Core.Path.{_≡_, ap, refl}
+use mathlib.Core.Path.{_∙_, _≡_, ap, refl}
 use native.Mathlib.Omega.{arith}
 use lib.Dec.{leb, ltb}
 use lib.ListN.{length, length-append}
@@ -10,13 +10,17 @@ use borrow.Author.Tests.{leb-false, ltb-true}
 use Rattle.tree.specs.Name.{Name}
 use Rattle.tree.specs.Forest.{Present, Forest, Node, Node.absent, Node.file, Node.folder, Sorted, SortedNode, TreePath, at, kids, size}
 use Rattle.tree.specs.Put.{put, Reaches}
+use Rattle.tree.specs.Key.{fold, foldNode, foldPath, key, putIn}
+use Rattle.tree.specs.declared.Profile.{Profile}
 use Rattle.tree.specs.Rules.{ContentRule, NameRule, Within, AllNames}
 use Rattle.tree.proofs.Put.{put-here, sorted-put, put-folder}
 use Rattle.tree.proofs.Size.{size-put, rowCount}
-use Rattle.tree.proofs.Rules.{under, under-length, within-put, WithinNode}
+use Rattle.tree.proofs.Rules.{under, under-length, WithinNode}
+use Rattle.tree.proofs.Folds.{size-fold}
+use Rattle.tree.proofs.Spots.{fold-put-last, path-append, putIn-folder, within-putIn}
 use Rattle.listing.specs.Accepted.{Fit, GoodState, GoodStep, Inside, IsFolder}
 use Rattle.listing.specs.Entries.{Entry.holds, Said}
-use Rattle.listing.specs.Reading.{Step.goes, Step.stops, inForce, isAbsent, opened, placed}
+use Rattle.listing.specs.Reading.{Step.goes, Step.stops, atKey, inForce, isAbsent, opened, placed}
 use Rattle.listing.proofs.Parent.{folder-above, parent-last}
 use Rattle.listing.proofs.Kept.{GoodEntry, all-last}
 
@@ -26,94 +30,105 @@ pub record OneRow (x : Node) : Type 0 where
   pub sorted : SortedNode x
   pub within : (d : ℕ) → WithinNode NameRule ContentRule d x
   pub there : Present x
+  pub nameless : (p : Profile) → foldNode p x ≡ x
 
 pub one-row : (x : Node) → GoodEntry (holds x) → OneRow x
-unfolding Sorted Within size
+unfolding fold Sorted Within size
 one-row absent h = absurd h
-one-row (file c) h = record { one = refl; sorted = tt; within = λ d. h; there = tt }
+one-row (file c) h = record { one = refl; sorted = tt; within = λ d. h; there = tt; nameless = λ p. refl }
 one-row (folder k) h =
-    record { one = ap (λ (j : Forest). suc (size j)) h; sorted = rw h tt; within = λ d. rw h tt; there = tt }
+    record { one = ap (λ (j : Forest). suc (size j)) h; sorted = rw h tt; within = λ d. rw h tt; there = tt; nameless = λ p. rw h }
 
 pub is-absent : (x : Node) → isAbsent x ≡ true → x ≡ absent
 is-absent absent e = refl
 is-absent (file c) e = absurd (false≢true e)
 is-absent (folder k) e = absurd (false≢true e)
 
--- an entry of a free name, put into the folder last opened
-module _ (most : ℕ) (n : Name) (x : Node) (f : Forest) (p : TreePath) (ds : List Said)
-    (rule : NameRule n) (row : OneRow x) (h : Inside most f p ds)
-    (less : length p < 16) (free : at (folder f) (p ++ (n ∷ [])) ≡ absent) (room : suc (size f) < most) where
+-- an entry of a free name, put into the folder last opened: by key it is put into the tree of keys
+module _ (p : Profile) (most : ℕ) (n : Name) (x : Node) (f : Forest) (q : TreePath) (ds : List Said)
+    (rule : NameRule n) (row : OneRow x) (h : Inside p most f q ds)
+    (less : length q < 16) (free : atKey p f (q ++ (n ∷ [])) ≡ absent) (room : suc (size f) < most) where
   path : TreePath
-  path = p ++ (n ∷ [])
+  path = q ++ (n ∷ [])
+
+  keys : TreePath
+  keys = foldPath p q ++ (key p n ∷ [])
+
+  keys-path : foldPath p path ≡ keys
+  unfolding path keys
+  keys-path = path-append p q (n ∷ [])
 
   grown : Forest
-  grown = kids (put path x (folder f))
+  grown = kids (putIn p path x (folder f))
 
-  parent : Reaches path (folder f)
-  unfolding path
-  parent = parent-last p n (folder f) (h .here)
+  fold-grown : folder (fold p grown) ≡ put keys x (folder (fold p f))
+  unfolding grown path keys
+  fold-grown = ap folder (fold-put-last p q n x f) ∙ rw (keys-path, row .nameless p) (put-folder (foldPath p q) (key p n) x (fold p f))
 
-  at-new : at (folder grown) path ≡ x
-  unfolding grown path
-  at-new = rw (put-folder p n x f) (put-here path x (folder f) (h .fit .good .sorted) parent)
+  parent : Reaches keys (folder (fold p f))
+  unfolding keys
+  parent = parent-last (foldPath p q) (key p n) (folder (fold p f)) (h .here)
+
+  at-new : at (folder (fold p grown)) keys ≡ x
+  at-new = rw fold-grown (put-here keys x (folder (fold p f)) (h .fit .good .sorted) parent)
 
   all-path : AllNames NameRule path
   unfolding path
-  all-path = all-last NameRule p n (h .named) rule
+  all-path = all-last NameRule q n (h .named) rule
 
-  sorted-new : Sorted grown
-  unfolding grown path
-  sorted-new = rw (← put-folder p n x f) at (sorted-put path x (folder f) (row .sorted) (h .fit .good .sorted))
+  sorted-new : Sorted (fold p grown)
+  sorted-new = rw (← fold-grown) at (sorted-put keys x (folder (fold p f)) (row .sorted) (h .fit .good .sorted))
 
   within-new : Within NameRule ContentRule 16 grown
   unfolding grown path
   within-new =
-      let e : under path (15 - length p) ≡ 16 = omega (arith, under-length path (15 - length p), length-append p (n ∷ [])) in
-      let k : WithinNode NameRule ContentRule (under path (15 - length p)) (folder f) = rw e (h .fit .good .within) in
-      rw (e, ← put-folder p n x f) at (within-put NameRule ContentRule (15 - length p) path x (folder f) all-path (row .within (15 - length p)) k)
+      let e : under path (15 - length q) ≡ 16 = omega (arith, under-length path (15 - length q), length-append q (n ∷ [])) in
+      let k : WithinNode NameRule ContentRule (under path (15 - length q)) (folder f) = rw e (h .fit .good .within) in
+      rw (e, ← putIn-folder p q n x f) at (within-putIn p NameRule ContentRule (15 - length q) path x (folder f) all-path (row .within (15 - length q)) k)
 
   size-new : suc (size grown) ≤ most
-  unfolding grown path
+  unfolding path
   size-new =
-      omega (arith, size-put path x (folder f) (h .fit .good .sorted) parent, row .one, ap rowCount free, ap rowCount (put-folder p n x f))
+      let e : at (folder (fold p f)) keys ≡ absent = rw (← keys-path) free in
+      omega (arith, size-put keys x (folder (fold p f)) (h .fit .good .sorted) parent, row .one, ap rowCount e, ap rowCount fold-grown, size-fold p grown, size-fold p f)
 
-  fit-new : Fit most grown
+  fit-new : Fit p most grown
   fit-new = record { good = record { sorted = sorted-new; within = within-new }; room = size-new }
 
-  good-file : Inside most grown p ds
-  unfolding path
+  good-file : Inside p most grown q ds
+  unfolding keys
   good-file =
-      record { fit = fit-new; here = folder-above p n (folder grown) (rw at-new (row .there)); named = h .named; deep = h .deep; each = h .each }
+      record { fit = fit-new; here = folder-above (foldPath p q) (key p n) (folder (fold p grown)) (rw at-new (row .there)); named = h .named; deep = h .deep; each = h .each }
 
-  good-folder : IsFolder x → Inside most grown path (ds ++ (inForce ds ∷ []))
+  good-folder : IsFolder x → Inside p most grown path (ds ++ (inForce ds ∷ []))
   unfolding path
-  good-folder q =
+  good-folder folders =
       let each = h .each in
       record {
         fit = fit-new;
-        here = rw at-new q;
+        here = rw (keys-path, at-new) folders;
         named = all-path;
-        deep = omega (arith, length-append p (n ∷ []));
-        each = omega (arith, length-append p (n ∷ []), length-append ds (inForce ds ∷ []));
+        deep = omega (arith, length-append q (n ∷ []));
+        each = omega (arith, length-append q (n ∷ []), length-append ds (inForce ds ∷ []));
       }
 
-good-opened : (most : ℕ) (n : Name) (x : Node) (f : Forest) (p : TreePath) (ds : List Said) → NameRule n → OneRow x → Inside most f p ds
-    → length p < 16 → at (folder f) (p ++ (n ∷ [])) ≡ absent → suc (size f) < most
-    → GoodState most (opened n x (kids (put (p ++ (n ∷ [])) x (folder f))) p ds)
+good-opened : (p : Profile) (most : ℕ) (n : Name) (x : Node) (f : Forest) (q : TreePath) (ds : List Said) → NameRule n → OneRow x → Inside p most f q ds
+    → length q < 16 → atKey p f (q ++ (n ∷ [])) ≡ absent → suc (size f) < most
+    → GoodState p most (opened n x (kids (putIn p (q ++ (n ∷ [])) x (folder f))) q ds)
 unfolding grown path
-good-opened most n absent f p ds rule row h less free room = absurd (row .there)
-good-opened most n (file c) f p ds rule row h less free room = good-file most n (file c) f p ds rule row h less free room
-good-opened most n (folder k) f p ds rule row h less free room = good-folder most n (folder k) f p ds rule row h less free room tt
+good-opened p most n absent f q ds rule row h less free room = absurd (row .there)
+good-opened p most n (file c) f q ds rule row h less free room = good-file p most n (file c) f q ds rule row h less free room
+good-opened p most n (folder k) f q ds rule row h less free room = good-folder p most n (folder k) f q ds rule row h less free room tt
 
-pub good-placed : (most : ℕ) (n : Name) (x : Node) (f : Forest) (p : TreePath) (ds : List Said) → NameRule n → OneRow x → Inside most f p ds
-    → GoodStep most (placed most n x f p ds)
+pub good-placed : (p : Profile) (most : ℕ) (n : Name) (x : Node) (f : Forest) (q : TreePath) (ds : List Said) → NameRule n → OneRow x → Inside p most f q ds
+    → GoodStep p most (placed p most n x f q ds)
 unfolding placed
-good-placed most n x f p ds rule row h =
-    go (leb 16 (length p)) (isAbsent (at (folder f) (p ++ (n ∷ [])))) (ltb (suc (size f)) most) refl refl refl
+good-placed p most n x f q ds rule row h =
+    go (leb 16 (length q)) (isAbsent (atKey p f (q ++ (n ∷ [])))) (ltb (suc (size f)) most) refl refl refl
   where
-    go : (t u v : Bool) → leb 16 (length p) ≡ t → isAbsent (at (folder f) (p ++ (n ∷ []))) ≡ u → ltb (suc (size f)) most ≡ v
-        → GoodStep most (cond t (stops 14) (cond u (cond v (goes (opened n x (kids (put (p ++ (n ∷ [])) x (folder f))) p ds)) (stops 3)) (stops 13)))
+    go : (t u v : Bool) → leb 16 (length q) ≡ t → isAbsent (atKey p f (q ++ (n ∷ []))) ≡ u → ltb (suc (size f)) most ≡ v
+        → GoodStep p most (cond t (stops 14) (cond u (cond v (goes (opened n x (kids (putIn p (q ++ (n ∷ [])) x (folder f))) q ds)) (stops 3)) (stops 13)))
     go true u v d e r = tt
-    go false true true d e r = good-opened most n x f p ds rule row h (leb-false 16 (length p) d) (is-absent _ e) (ltb-true _ most r)
+    go false true true d e r = good-opened p most n x f q ds rule row h (leb-false 16 (length q) d) (is-absent _ e) (ltb-true _ most r)
     go false true false d e r = tt
     go false false v d e r = tt

@@ -11,15 +11,18 @@ use Prim.Native.Nat.{ℕ, suc, zero, _-_, _<_}
 use borrow.Author.Tests.{ltb-true}
 use Rattle.tree.specs.Name.{Name}
 use Rattle.tree.specs.Forest.{Present, Forest, Forest.end, Node, Node.absent, Node.file, Node.folder, Sorted, TreePath, at, size}
+use Rattle.tree.specs.Key.{fold, foldPath, key}
+use Rattle.tree.specs.declared.Profile.{Profile}
 use Rattle.tree.specs.Rules.{ContentRule, NameRule, Within, AllNames}
 use Rattle.tree.specs.Same.{sameWords}
 use Rattle.tree.proofs.Same.{and-true}
+use Rattle.tree.proofs.Spots.{path-append}
 use Rattle.listing.specs.Accepted.{GoodState, GoodStep, Inside, IsFolder}
 use Rattle.listing.specs.Bytes.{text}
 use Rattle.listing.specs.Words.{Words, values}
 use Rattle.listing.specs.Values.{contentOf, digestOf, isDigest, isSize, sizeOf}
 use Rattle.listing.specs.Entries.{Entry, Entry.faulty, Entry.holds, Said, Said.isDir, Said.isFile, Said.isOther, Said.none, Said.twice, entryAs, oneEach, rootAs, typeIn}
-use Rattle.listing.specs.Reading.{State, State.before, State.closed, State.inside, Step, Step.goes, Step.stops, close, closeLine, front, isEmpty, rooted, rootLine, setLine, setTo, slashLine, unsetLine, withDefault}
+use Rattle.listing.specs.Reading.{State, State.before, State.closed, State.inside, Step, Step.goes, Step.stops, atKey, close, closeLine, front, isEmpty, rooted, rootLine, setLine, setTo, slashLine, unsetLine, withDefault}
 use Rattle.listing.proofs.Parent.{folder-above}
 use Rattle.listing.proofs.Ruled.{content-rule}
 
@@ -48,104 +51,106 @@ entry-good isFile ws = one-each (values (text "size") ws) (values (text "sha256d
 entry-good isOther ws = tt
 entry-good twice ws = tt
 
-module _ (most : ℕ) where
-  pub good-default : (v : Said) (s : State) → GoodState most s → GoodState most (withDefault v s)
+module _ (p : Profile) (most : ℕ) where
+  pub good-default : (v : Said) (s : State) → GoodState p most s → GoodState p most (withDefault v s)
   good-default v (before d) h = tt
-  good-default v (inside f p ds) h =
+  good-default v (inside f q ds) h =
       record { fit = h .fit; here = h .here; named = h .named; deep = h .deep; each = length-set ds _ v ∙ h .each }
   good-default v (closed f) h = h
 
-  good-set : (t : Said) (s : State) → GoodState most s → GoodStep most (setTo t s)
+  good-set : (t : Said) (s : State) → GoodState p most s → GoodStep p most (setTo t s)
   good-set none s h = h
   good-set isDir s h = good-default isDir s h
   good-set isFile s h = good-default isFile s h
   good-set isOther s h = tt
   good-set twice s h = tt
 
-  pub good-cond : (t : Bool) (x y : Step) → GoodStep most x → GoodStep most y → GoodStep most (cond t x y)
-  good-cond true x y p q = p
-  good-cond false x y p q = q
+  pub good-cond : (t : Bool) (x y : Step) → GoodStep p most x → GoodStep p most y → GoodStep p most (cond t x y)
+  good-cond true x y g h = g
+  good-cond false x y g h = h
 
-  good-setting : (ws : Words) (s : State) → GoodState most s → GoodStep most (setLine ws s)
+  good-setting : (ws : Words) (s : State) → GoodState p most s → GoodStep p most (setLine ws s)
   unfolding setLine
   good-setting ws s h =
       good-cond (isEmpty (values (text "size") ws) && isEmpty (values (text "sha256digest") ws)) _ (stops 9) (good-set (typeIn none ws) s h) tt
 
-  good-clearing : (ws : Words) (s : State) → GoodState most s → GoodStep most (unsetLine ws s)
+  good-clearing : (ws : Words) (s : State) → GoodState p most s → GoodStep p most (unsetLine ws s)
   unfolding unsetLine
   good-clearing ws s h = go (isEmpty (values (text "type") ws) && isEmpty (values (text "all") ws))
     where
-      go : (t : Bool) → GoodState most (cond t s (withDefault none s))
+      go : (t : Bool) → GoodState p most (cond t s (withDefault none s))
       go true = h
       go false = good-default none s h
 
-  pub good-slash : (w : List ℕ) (ws : Words) (s : State) → GoodState most s → GoodStep most (slashLine w ws s)
+  pub good-slash : (w : List ℕ) (ws : Words) (s : State) → GoodState p most s → GoodStep p most (slashLine w ws s)
   unfolding slashLine
   good-slash w ws s h =
       good-cond (sameWords w (text "/set")) _ _ (good-setting ws s h)
       (good-cond (sameWords w (text "/unset")) _ (stops 9) (good-clearing ws s h) tt)
 
-all-take : (P : Name → Type 0) (k : ℕ) (p : TreePath) → AllNames P p → AllNames P (take k p)
+all-take : (P : Name → Type 0) (k : ℕ) (q : TreePath) → AllNames P q → AllNames P (take k q)
 unfolding AllNames
 all-take P zero [] h = tt
-all-take P zero (n ∷ p) h = tt
+all-take P zero (n ∷ q) h = tt
 all-take P (suc k) [] h = tt
-all-take P (suc k) (n ∷ p) h = (h .0, all-take P k p (h .1))
+all-take P (suc k) (n ∷ q) h = (h .0, all-take P k q (h .1))
 
-pub all-last : (P : Name → Type 0) (p : TreePath) (n : Name) → AllNames P p → P n → AllNames P (p ++ (n ∷ []))
+pub all-last : (P : Name → Type 0) (q : TreePath) (n : Name) → AllNames P q → P n → AllNames P (q ++ (n ∷ []))
 unfolding AllNames
-all-last P [] n h q = (q, tt)
-all-last P (m ∷ p) n h q = (h .0, all-last P p n (h .1) q)
+all-last P [] n h r = (r, tt)
+all-last P (m ∷ q) n h r = (h .0, all-last P q n (h .1) r)
 
 pub there-of : (x : Node) → IsFolder x → Present x
 there-of absent h = h
 there-of (file c) h = tt
 there-of (folder k) h = tt
 
-pub split-last : (p : TreePath) → 0 < length p → p ≡ front p ++ (getD p (length p - 1) [] ∷ [])
-split-last p h =
-    let e : suc (length p - 1) ≡ length p = omega arith in
-    let lt : length p - 1 < length p = omega arith in
-    sym (take-length p) ∙ ap (λ (k : ℕ). take k p) (sym e) ∙ take-suc p (length p - 1) [] lt
+pub split-last : (q : TreePath) → 0 < length q → q ≡ front q ++ (getD q (length q - 1) [] ∷ [])
+split-last q h =
+    let e : suc (length q - 1) ≡ length q = omega arith in
+    let lt : length q - 1 < length q = omega arith in
+    sym (take-length q) ∙ ap (λ (k : ℕ). take k q) (sym e) ∙ take-suc q (length q - 1) [] lt
 
-module _ (most : ℕ) where
-  good-close : (f : Forest) (p : TreePath) (ds : List Said) → Inside most f p ds → GoodState most (close f p ds)
+module _ (p : Profile) (most : ℕ) where
+  good-close : (f : Forest) (q : TreePath) (ds : List Said) → Inside p most f q ds → GoodState p most (close f q ds)
   good-close f [] ds h = h .fit
-  good-close f (n ∷ p) ds h =
-      let q : TreePath = n ∷ p in
-      let there : Present (at (folder f) (front q ++ (getD q (length q - 1) [] ∷ []))) = rw (split-last q (omega arith)) at (there-of (at (folder f) q) (h .here)) in
+  good-close f (n ∷ q) ds h =
+      let r : TreePath = n ∷ q in
+      let m : Name = getD r (length r - 1) [] in
+      let e : foldPath p r ≡ foldPath p (front r) ++ (key p m ∷ []) = ap (foldPath p) (split-last r (omega arith)) ∙ path-append p (front r) (m ∷ []) in
+      let there : Present (at (folder (fold p f)) (foldPath p (front r) ++ (key p m ∷ []))) = rw e at (there-of (atKey p f r) (h .here)) in
       let deep = h .deep in
       let each = h .each in
-      let named : AllNames NameRule (front q) = all-take NameRule (length q - 1) q (h .named) in
+      let named : AllNames NameRule (front r) = all-take NameRule (length r - 1) r (h .named) in
       record {
         fit = h .fit;
-        here = folder-above (front q) _ (folder f) there;
+        here = folder-above (foldPath p (front r)) (key p m) (folder (fold p f)) there;
         named = named;
-        deep = omega (arith, length-take (length q - 1) q);
-        each = omega (arith, length-take (length q - 1) q, length-take (length ds - 1) ds);
+        deep = omega (arith, length-take (length r - 1) r);
+        each = omega (arith, length-take (length r - 1) r, length-take (length ds - 1) ds);
       }
 
-  pub good-closing : (ws : Words) (s : State) → GoodState most s → GoodStep most (closeLine ws s)
+  pub good-closing : (ws : Words) (s : State) → GoodState p most s → GoodStep p most (closeLine ws s)
   unfolding closeLine
   good-closing ws (before d) h = tt
-  good-closing ws (inside f p ds) h = good-cond most (isEmpty ws) (goes (close f p ds)) (stops 9) (good-close f p ds h) tt
+  good-closing ws (inside f q ds) h = good-cond p most (isEmpty ws) (goes (close f q ds)) (stops 9) (good-close f q ds h) tt
   good-closing ws (closed f) h = tt
 
-  root-state : (d : Said) → 0 < most → Inside most end [] (d ∷ [])
-  unfolding Sorted Within AllNames at size
+  root-state : (d : Said) → 0 < most → Inside p most end [] (d ∷ [])
+  unfolding fold Sorted Within AllNames at size
   root-state d h =
       record { fit = record { good = record { sorted = tt; within = tt }; room = h }; here = tt; named = tt; deep = omega arith; each = refl }
 
-  good-rooted : (d : Said) (x : Entry) → GoodStep most (rooted most d x)
+  good-rooted : (d : Said) (x : Entry) → GoodStep p most (rooted most d x)
   good-rooted d (faulty k) = tt
   good-rooted d (holds x) = go (ltb 0 most) refl
     where
-      go : (t : Bool) → ltb 0 most ≡ t → GoodStep most (cond t (goes (inside end [] (d ∷ []))) (stops 3))
+      go : (t : Bool) → ltb 0 most ≡ t → GoodStep p most (cond t (goes (inside end [] (d ∷ []))) (stops 3))
       go true e = root-state d (ltb-true 0 most e)
       go false e = tt
 
-  pub good-root : (ws : Words) (s : State) → GoodStep most (rootLine most ws s)
+  pub good-root : (ws : Words) (s : State) → GoodStep p most (rootLine most ws s)
   unfolding rootLine
   good-root ws (before d) = good-rooted d (rootAs (typeIn d ws))
-  good-root ws (inside f p ds) = tt
+  good-root ws (inside f q ds) = tt
   good-root ws (closed f) = tt

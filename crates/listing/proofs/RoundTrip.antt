@@ -10,7 +10,9 @@ use Prim.Native.Nat.{ℕ, suc, zero, _+_, _-_, _≤_}
 use borrow.Author.Tests.{le-leb}
 use Rattle.tree.specs.Name.{Name}
 use Rattle.tree.specs.Forest.{Forest, Forest.dir, Forest.end, Forest.leaf, Sorted, size}
-use Rattle.tree.specs.Rules.{ContentRule, NameRule, WellFormed, Within}
+use Rattle.tree.specs.Rules.{ContentRule, NameRule, Within}
+use Rattle.tree.specs.Key.{FormedIn, fold}
+use Rattle.tree.specs.declared.Profile.{Profile}
 use Rattle.listing.specs.Bytes.{text}
 use Rattle.listing.specs.Lines.{linesFrom}
 use Rattle.listing.specs.Entries.{Said, Said.none}
@@ -34,16 +36,16 @@ dir-split m k s r =
     ∙ ap (λ (l : List ℕ). dirLine (nameText m) ++ l) (append-assoc (linesOf k) (text "..\n" ++ linesOf s) r)
 
 -- what is known where the entries s are about to be read, at most d deep, after those of f
-record Ready (most d : ℕ) (os : List Open) (f s : Forest) : Type 0 where
-  fits : Fits os
-  sorted : Sorted (join f s)
+record Ready (p : Profile) (most d : ℕ) (os : List Open) (f s : Forest) : Type 0 where
+  fits : Fits p os
+  sorted : Sorted (fold p (join f s))
   within : Within NameRule ContentRule d s
   deep : d + length os ≤ 16
   room : suc (size (plug os f) + size s) ≤ most
 
-module _ {most d : ℕ} {os : List Open} {f : Forest} where
+module _ {p : Profile} {most d : ℕ} {os : List Open} {f : Forest} where
   -- once g is read, s is next
-  next : (g s : Forest) → Ready most d os f (join g s) → Within NameRule ContentRule d s → Ready most d os (join f g) s
+  next : (g s : Forest) → Ready p most d os f (join g s) → Within NameRule ContentRule d s → Ready p most d os (join f g) s
   next g s h w =
       let room = h .room in
       record {
@@ -55,58 +57,58 @@ module _ {most d : ℕ} {os : List Open} {f : Forest} where
       }
 
   -- a folder's own entries are next once it is opened
-  dir-kids : {m : Name} {k s : Forest} → Ready most (suc d) os f (dir m k s) → Ready most d (os ++ (record { earlier = f; name = m } ∷ [])) end k
-  unfolding Sorted Within size
+  dir-kids : {m : Name} {k s : Forest} → Ready p most (suc d) os f (dir m k s) → Ready p most d (os ++ (record { earlier = f; name = m } ∷ [])) end k
+  unfolding fold Sorted Within size
   dir-kids {m} {k} {s} h =
       let room = h .room in
       let deep = h .deep in
       let o : Open = record { earlier = f; name = m } in
       record {
-        fits = fits-more os o (h .fits) (sorted-below m f a-dir (h .sorted));
-        sorted = sorted-rest f (dir m k s) (h .sorted) .1;
+        fits = fits-more p os o (h .fits) (sorted-below p m f a-dir (h .sorted));
+        sorted = sorted-rest p f (dir m k s) (h .sorted) .1;
         within = h .within .1;
         deep = omega (arith, length-append os (o ∷ []));
         room = omega (arith, size-plug os f (dir m end end), ap size (plug-more os o end));
       }
 
 -- the lines of s lead from the entries f to those of both
-abbrev Reads : ℕ → Forest → Type 0
-Reads most s =
-    (d n : ℕ) (r : List ℕ) (os : List Open) (f : Forest) (ds : List Said) → Ready most d os f s
-    → run most (linesFrom n 0 (linesOf s ++ r)) (inside (plug os f) (names os) ds)
-    ≡ run most (linesFrom (after n s) 0 r) (inside (plug os (join f s)) (names os) ds)
+abbrev Reads : Profile → ℕ → Forest → Type 0
+Reads p most s =
+    (d n : ℕ) (r : List ℕ) (os : List Open) (f : Forest) (ds : List Said) → Ready p most d os f s
+    → run p most (linesFrom n 0 (linesOf s ++ r)) (inside (plug os f) (names os) ds)
+    ≡ run p most (linesFrom (after n s) 0 r) (inside (plug os (join f s)) (names os) ds)
 
 -- a folder's own lines, between the one that opens it and the one that closes it
-reads-kids : (most : ℕ) (m : Name) (k s : Forest) → Reads most k → (d n : ℕ) (r : List ℕ) (os : List Open) (f : Forest) (ds : List Said)
-    → Ready most (suc d) os f (dir m k s)
-    → run most (linesFrom n 0 (linesOf k ++ r)) (inside (plug os (join f (dir m end end))) (names os ++ (m ∷ [])) ds)
-    ≡ run most (linesFrom (after n k) 0 r) (inside (plug os (join f (dir m k end))) (names os ++ (m ∷ [])) ds)
-reads-kids most m k s reads d n r os f ds h =
+reads-kids : (p : Profile) (most : ℕ) (m : Name) (k s : Forest) → Reads p most k → (d n : ℕ) (r : List ℕ) (os : List Open) (f : Forest) (ds : List Said)
+    → Ready p most (suc d) os f (dir m k s)
+    → run p most (linesFrom n 0 (linesOf k ++ r)) (inside (plug os (join f (dir m end end))) (names os ++ (m ∷ [])) ds)
+    ≡ run p most (linesFrom (after n k) 0 r) (inside (plug os (join f (dir m k end))) (names os ++ (m ∷ [])) ds)
+reads-kids p most m k s reads d n r os f ds h =
     let o : Open = record { earlier = f; name = m } in
     rw (plug-more os o end, plug-more os o k, names-more os o) at (reads d n r (os ++ (o ∷ [])) end ds (dir-kids h))
 
-reads : (most : ℕ) (s : Forest) → Reads most s
+reads : (p : Profile) (most : ℕ) (s : Forest) → Reads p most s
 unfolding linesOf Within size
-reads most end d n r os f ds h = rw (join-end f)
-reads most (leaf m c s) zero n r os f ds h = absurd (h .within)
-reads most (leaf m c s) (suc d) n r os f ds h =
+reads p most end d n r os f ds h = rw (join-end f)
+reads p most (leaf m c s) zero n r os f ds h = absurd (h .within)
+reads p most (leaf m c s) (suc d) n r os f ds h =
     let deep = h .deep in
     let room = h .room in
     rw (append-assoc (fileLine m c) (linesOf s) r, ← join-assoc f (leaf m c end) s)
-    (file-line most n (linesOf s ++ r) m (h .within .0) os f ds (h .fits) (sorted-below m f a-leaf (h .sorted)) (omega arith) (omega arith) c (h .within .1)
-    ∙ reads most s (suc d) (suc n) r os (join f (leaf m c end)) ds (next (leaf m c end) s h (h .within .2)))
-reads most (dir m k s) zero n r os f ds h = absurd (h .within)
-reads most (dir m k s) (suc d) n r os f ds h =
+    (file-line p most n (linesOf s ++ r) m (h .within .0) os f ds (h .fits) (sorted-below p m f a-leaf (h .sorted)) (omega arith) (omega arith) c (h .within .1)
+    ∙ reads p most s (suc d) (suc n) r os (join f (leaf m c end)) ds (next (leaf m c end) s h (h .within .2)))
+reads p most (dir m k s) zero n r os f ds h = absurd (h .within)
+reads p most (dir m k s) (suc d) n r os f ds h =
     let deep = h .deep in
     let room = h .room in
     let rest : List ℕ = text "..\n" ++ (linesOf s ++ r) in
     let ds′ : List Said = ds ++ (inForce ds ∷ []) in
     let n′ : ℕ = after (suc n) k in
     rw (dir-split m k s r, ← join-assoc f (dir m k end) s)
-    (dir-line most n (linesOf k ++ rest) m (h .within .0) os f ds (h .fits) (sorted-below m f a-dir (h .sorted)) (omega arith) (omega arith)
-    ∙ reads-kids most m k s (reads most k) d (suc n) rest os f ds′ h
-    ∙ close-line most n′ (linesOf s ++ r) (plug os (join f (dir m k end))) (names os) m ds (inForce ds)
-    ∙ reads most s (suc d) (suc n′) r os (join f (dir m k end)) ds (next (dir m k end) s h (h .within .2)))
+    (dir-line p most n (linesOf k ++ rest) m (h .within .0) os f ds (h .fits) (sorted-below p m f a-dir (h .sorted)) (omega arith) (omega arith)
+    ∙ reads-kids p most m k s (reads p most k) d (suc n) rest os f ds′ h
+    ∙ close-line p most n′ (linesOf s ++ r) (plug os (join f (dir m k end))) (names os) m ds (inForce ds)
+    ∙ reads p most s (suc d) (suc n′) r os (join f (dir m k end)) ds (next (dir m k end) s h (h .within .2)))
 
 -- the whole text ends in LF
 ends-in : (l : List ℕ) → endsInLF (l ++ (10 ∷ [])) ≡ true
@@ -116,17 +118,17 @@ text-ends : (f : Forest) → endsInLF (textOf f) ≡ true
 unfolding textOf dirLine
 text-ends f = rw (← append-assoc (linesOf f) (text "..") (10 ∷ [])) (ends-in (text "#mtree\n. type=dir\n" ++ (linesOf f ++ text "..")))
 
-runs : (most : ℕ) (f : Forest) → WellFormed f → suc (size f) ≤ most → run most (linesFrom 1 0 (textOf f)) (before none) ≡ accepted f
+runs : (p : Profile) (most : ℕ) (f : Forest) → FormedIn p f → suc (size f) ≤ most → run p most (linesFrom 1 0 (textOf f)) (before none) ≡ accepted f
 unfolding textOf linesFrom run Fits size
-runs most f w h =
-    hash-line most (dirLine (text ".") ++ (linesOf f ++ text "..\n")) (before none)
-    ∙ root-line most 2 (linesOf f ++ text "..\n") (omega arith)
-    ∙ reads most f 16 3 (text "..\n") [] end (none ∷ []) (record { fits = tt; sorted = w .sorted; within = w .within; deep = omega arith; room = omega arith })
-    ∙ close-root most (after 3 f) [] f (none ∷ [])
+runs p most f w h =
+    hash-line p most (dirLine (text ".") ++ (linesOf f ++ text "..\n")) (before none)
+    ∙ root-line p most 2 (linesOf f ++ text "..\n") (omega arith)
+    ∙ reads p most f 16 3 (text "..\n") [] end (none ∷ []) (record { fits = tt; sorted = w .sorted; within = w .within; deep = omega arith; room = omega arith })
+    ∙ close-root p most (after 3 f) [] f (none ∷ [])
 
 pub round-trip : RoundTrip
 unfolding reading
-round-trip f room w rows long fits =
+round-trip p f room w rows long fits =
     let most : suc (size f) ≤ mostRows room = omega arith in
-    let e : reading (textOf f) room ≡ accepted f = rw (le-leb (length (textOf f)) 65536 long, text-ends f, runs (mostRows room) f w most) in
+    let e : reading p (textOf f) room ≡ accepted f = rw (le-leb (length (textOf f)) 65536 long, text-ends f, runs p (mostRows room) f w most) in
     record { tree = e; answer = ap answerOf e ∙ rw add-one }

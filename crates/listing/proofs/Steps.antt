@@ -9,22 +9,24 @@ use lib.Seq.{take-at}
 use Prim.Native.Nat.{ℕ, suc, _-_, _<_}
 use borrow.Author.Tests.{eqb-true, lt-leb, lt-ltb}
 use Rattle.tree.specs.Name.{Name, cmp}
-use Rattle.tree.specs.Forest.{Content, Forest, Forest.dir, Forest.end, Forest.leaf, Node, Node.absent, Node.file, Node.folder, TreePath, add, at, find, size}
-use Rattle.tree.specs.Put.{update}
+use Rattle.tree.specs.Forest.{Content, Forest, Forest.dir, Forest.end, Forest.leaf, Node, Node.absent, Node.file, Node.folder, TreePath, add, at, size}
+use Rattle.tree.specs.Key.{entry, foldNode, key, updateIn}
+use Rattle.tree.specs.declared.Profile.{Profile}
 use Rattle.tree.specs.Rules.{ContentRule, NameRule, goodName}
 use Rattle.tree.specs.Same.{sameWords}
 use Rattle.tree.proofs.Same.{sameWords-eq}
+use Rattle.tree.proofs.Folds.{entry-fold}
 use Rattle.listing.specs.Bytes.{classOf, text}
 use Rattle.listing.specs.Lines.{beginOf, lenIn, linesFrom}
 use Rattle.listing.specs.Words.{Words, isText, keyLen, span, values, wordsFrom}
 use Rattle.listing.specs.Names.{decodeFrom, isName, nameOf, packed}
 use Rattle.listing.specs.Entries.{Entry.holds, Said, Said.none, entryOf, typeIn}
-use Rattle.listing.specs.Reading.{State, State.before, State.closed, State.inside, Step.goes, close, closeLine, entered, entryLine, front, inForce, lineDoes, opened, placed, rootLine, run, wordsDo}
+use Rattle.listing.specs.Reading.{State, State.before, State.closed, State.inside, Step.goes, atKey, close, closeLine, entered, entryLine, front, inForce, lineDoes, opened, placed, rootLine, run, wordsDo}
 use Rattle.listing.specs.Writing.{digestText, dirLine, fileLine, nameText, sizeText}
 use Rattle.listing.proofs.Digits.{Back, allPlain, content-back}
 use Rattle.listing.proofs.Solid.{AllSolid, AllSolid.more, AllSolid.none, Solid, len-done, solid-plain, tailOf}
 use Rattle.listing.proofs.Spelling.{is-name, name-back}
-use Rattle.listing.proofs.Spot.{Below, Fits, Open, at-plug, find-join, join, join-end, names, plug, put-plug, update-join}
+use Rattle.listing.proofs.Spot.{Below, Fits, Open, at-plug, entry-join, join, join-end, names, plug, put-plug, update-join}
 use Rattle.listing.proofs.Written.{lines-head, solid-name, takes}
 
 -- a name is no other kind of first word
@@ -59,32 +61,33 @@ some-name : (w : List ℕ) → isName w ≡ true → 0 < length w
 some-name [] p = absurd (false≢true (sym (not-names .2) ∙ p))
 some-name (b ∷ v) p = omega arith
 
-entry-word : (most : ℕ) (w : List ℕ) (ws : Words) (f : Forest) (p : TreePath) (ds : List Said) → isName w ≡ true
-    → wordsDo most true (w ∷ ws) (inside f p ds) ≡ entered most (nameOf w) (entryOf (inForce ds) ws) f p ds
+entry-word : (p : Profile) (most : ℕ) (w : List ℕ) (ws : Words) (f : Forest) (q : TreePath) (ds : List Said) → isName w ≡ true
+    → wordsDo p most true (w ∷ ws) (inside f q ds) ≡ entered p most (nameOf w) (entryOf (inForce ds) ws) f q ds
 unfolding wordsDo entryLine
-entry-word most w ws f p ds h =
+entry-word p most w ws f q ds h =
     rw (first-not 35 hash-first refl w h, first-not 47 slash-first refl w h, not-name w (text "..") h (not-names .0), not-name w (text ".") h (not-names .1), h)
 
 names-length : (os : List Open) → length (names os) ≡ length os
 names-length [] = refl
 names-length (o ∷ os) = ap suc (names-length os)
 
-not-there : (n : Name) (f : Forest) → Below n f → at (folder f) (n ∷ []) ≡ absent
-unfolding at find
-not-there n f b = rw join-end at (find-join n f end b)
+module _ (p : Profile) where
+  not-there : (n : Name) (f : Forest) → Below p n f → atKey p f (n ∷ []) ≡ absent
+  unfolding at entry
+  not-there n f b = sym (entry-fold p (key p n) f) ∙ ap (foldNode p) (rw join-end at (entry-join p n f end b))
 
-put-last : (n : Name) (x : Node) (f : Forest) → Below n f → update n x f ≡ join f (add n x end)
-unfolding update
-put-last n x f b = rw join-end at (update-join n x f end b)
+  put-last : (n : Name) (x : Node) (f : Forest) → Below p n f → updateIn p n x f ≡ join f (add n x end)
+  unfolding updateIn
+  put-last n x f b = rw join-end at (update-join p n x f end b)
 
--- a name that comes after all others is put last
-placed-last : (most : ℕ) (n : Name) (x : Node) (os : List Open) (f : Forest) (ds : List Said) → Fits os → Below n f → length os < 16
-    → suc (size (plug os f)) < most → placed most n x (plug os f) (names os) ds ≡ goes (opened n x (plug os (join f (add n x end))) (names os) ds)
-unfolding placed
-placed-last most n x os f ds h b d r =
-    let e : at (folder (plug os f)) (names os ++ (n ∷ [])) ≡ absent = at-plug os f (n ∷ []) h ∙ not-there n f b in
-    let k : length (names os) < 16 = omega (arith, names-length os) in
-    rw (lt-leb 16 (length (names os)) k, e, lt-ltb _ most r, put-plug os f n x h, put-last n x f b)
+  -- a name that comes after all others is put last
+  placed-last : (most : ℕ) (n : Name) (x : Node) (os : List Open) (f : Forest) (ds : List Said) → Fits p os → Below p n f → length os < 16
+      → suc (size (plug os f)) < most → placed p most n x (plug os f) (names os) ds ≡ goes (opened n x (plug os (join f (add n x end))) (names os) ds)
+  unfolding placed
+  placed-last most n x os f ds h b d r =
+      let e : atKey p (plug os f) (names os ++ (n ∷ [])) ≡ absent = at-plug p os f (n ∷ []) h ∙ not-there n f b in
+      let k : length (names os) < 16 = omega (arith, names-length os) in
+      rw (lt-leb 16 (length (names os)) k, e, lt-ltb _ most r, put-plug p os f n x h, put-last n x f b)
 
 -- what a line's words say of an entry
 dir-entry : (d : Said) → entryOf d (text "type=dir" ∷ []) ≡ holds (folder end)
@@ -109,27 +112,27 @@ solid-file c b =
     (more (solid-plain (text "size=" ++ sizeText c) (b .plain-size)) (omega arith)
     (more (solid-plain (text "sha256digest=" ++ digestText c) (b .plain-digest)) (omega arith) none))
 
-module _ (most n : ℕ) (r : List ℕ) (m : Name) (rule : NameRule m) (os : List Open) (f : Forest) (ds : List Said)
-    (h : Fits os) (b : Below m f) (d : length os < 16) (room : suc (size (plug os f)) < most) where
+module _ (p : Profile) (most n : ℕ) (r : List ℕ) (m : Name) (rule : NameRule m) (os : List Open) (f : Forest) (ds : List Said)
+    (h : Fits p os) (b : Below p m f) (d : length os < 16) (room : suc (size (plug os f)) < most) where
   entered-last : (x : Node) (ws : Words) → entryOf (inForce ds) ws ≡ holds x
-      → wordsDo most true (nameText m ∷ ws) (inside (plug os f) (names os) ds) ≡ goes (opened m x (plug os (join f (add m x end))) (names os) ds)
+      → wordsDo p most true (nameText m ∷ ws) (inside (plug os f) (names os) ds) ≡ goes (opened m x (plug os (join f (add m x end))) (names os) ds)
   entered-last x ws e =
-      entry-word most (nameText m) ws (plug os f) (names os) ds (is-name m rule) ∙ rw (e, name-back m rule) (placed-last most m x os f ds h b d room)
+      entry-word p most (nameText m) ws (plug os f) (names os) ds (is-name m rule) ∙ rw (e, name-back m rule) (placed-last p most m x os f ds h b d room)
 
   entry-line : (x : Node) (ws : Words) → entryOf (inForce ds) ws ≡ holds x → AllSolid ws
-      → run most (linesFrom n 0 (nameText m ++ tailOf ws ++ r)) (inside (plug os f) (names os) ds)
-      ≡ run most (linesFrom (suc n) 0 r) (opened m x (plug os (join f (add m x end))) (names os) ds)
+      → run p most (linesFrom n 0 (nameText m ++ tailOf ws ++ r)) (inside (plug os f) (names os) ds)
+      ≡ run p most (linesFrom (suc n) 0 r) (opened m x (plug os (join f (add m x end))) (names os) ds)
   entry-line x ws e a =
-      takes most n r _ _ (solid-name m rule) (some-name (nameText m) (is-name m rule)) a (entered-last x ws e)
+      takes p most n r _ _ (solid-name m rule) (some-name (nameText m) (is-name m rule)) a (entered-last x ws e)
 
-  pub dir-line : run most (linesFrom n 0 (dirLine (nameText m) ++ r)) (inside (plug os f) (names os) ds)
-      ≡ run most (linesFrom (suc n) 0 r) (inside (plug os (join f (dir m end end))) (names os ++ (m ∷ [])) (ds ++ (inForce ds ∷ [])))
+  pub dir-line : run p most (linesFrom n 0 (dirLine (nameText m) ++ r)) (inside (plug os f) (names os) ds)
+      ≡ run p most (linesFrom (suc n) 0 r) (inside (plug os (join f (dir m end end))) (names os ++ (m ∷ [])) (ds ++ (inForce ds ∷ [])))
   unfolding dirLine tailOf
   dir-line = entry-line (folder end) (text "type=dir" ∷ []) (dir-entry (inForce ds)) solid-dir
 
   pub file-line : (c : Content) → ContentRule c
-      → run most (linesFrom n 0 (fileLine m c ++ r)) (inside (plug os f) (names os) ds)
-      ≡ run most (linesFrom (suc n) 0 r) (inside (plug os (join f (leaf m c end))) (names os) ds)
+      → run p most (linesFrom n 0 (fileLine m c ++ r)) (inside (plug os f) (names os) ds)
+      ≡ run p most (linesFrom (suc n) 0 r) (inside (plug os (join f (leaf m c end))) (names os) ds)
   unfolding fileLine tailOf fileWords
   file-line c q = let k = content-back c q in entry-line (file c) (fileWords c) (file-entry (inForce ds) c k) (solid-file c k)
 
@@ -145,30 +148,30 @@ solid-dots : Solid (text "..") × Solid (text ".")
 unfolding allPlain classOf
 solid-dots = (solid-plain (text "..") refl, solid-plain (text ".") refl)
 
-close-word : (most : ℕ) (f : Forest) (p : TreePath) (ds : List Said) → wordsDo most true (text ".." ∷ []) (inside f p ds) ≡ goes (close f p ds)
+close-word : (p : Profile) (most : ℕ) (f : Forest) (q : TreePath) (ds : List Said) → wordsDo p most true (text ".." ∷ []) (inside f q ds) ≡ goes (close f q ds)
 unfolding wordsDo closeLine sameWords cmp
-close-word most f p ds = refl
+close-word p most f q ds = refl
 
-root-word : (most : ℕ) → 0 < most → wordsDo most true (text "." ∷ text "type=dir" ∷ []) (before none) ≡ goes (inside end [] (none ∷ []))
+root-word : (p : Profile) (most : ℕ) → 0 < most → wordsDo p most true (text "." ∷ text "type=dir" ∷ []) (before none) ≡ goes (inside end [] (none ∷ []))
 unfolding wordsDo rootLine typeIn values keyLen sameWords cmp
-root-word most h = rw (lt-ltb 0 most h)
+root-word p most h = rw (lt-ltb 0 most h)
 
-module _ (most n : ℕ) (r : List ℕ) where
-  close-any : (f : Forest) (p : TreePath) (ds : List Said)
-      → run most (linesFrom n 0 (text "..\n" ++ r)) (inside f p ds) ≡ run most (linesFrom (suc n) 0 r) (close f p ds)
+module _ (p : Profile) (most n : ℕ) (r : List ℕ) where
+  close-any : (f : Forest) (q : TreePath) (ds : List Said)
+      → run p most (linesFrom n 0 (text "..\n" ++ r)) (inside f q ds) ≡ run p most (linesFrom (suc n) 0 r) (close f q ds)
   unfolding tailOf
-  close-any f p ds = takes most n r _ _ (solid-dots .0) (omega arith) none (close-word most f p ds)
+  close-any f q ds = takes p most n r _ _ (solid-dots .0) (omega arith) none (close-word p most f q ds)
 
-  pub close-line : (f : Forest) (p : TreePath) (m : Name) (ds : List Said) (d : Said)
-      → run most (linesFrom n 0 (text "..\n" ++ r)) (inside f (p ++ (m ∷ [])) (ds ++ (d ∷ []))) ≡ run most (linesFrom (suc n) 0 r) (inside f p ds)
-  close-line f p m ds d = close-any f (p ++ (m ∷ [])) (ds ++ (d ∷ [])) ∙ ap (run most (linesFrom (suc n) 0 r)) (close-last f p m ds d)
+  pub close-line : (f : Forest) (q : TreePath) (m : Name) (ds : List Said) (d : Said)
+      → run p most (linesFrom n 0 (text "..\n" ++ r)) (inside f (q ++ (m ∷ [])) (ds ++ (d ∷ []))) ≡ run p most (linesFrom (suc n) 0 r) (inside f q ds)
+  close-line f q m ds d = close-any f (q ++ (m ∷ [])) (ds ++ (d ∷ [])) ∙ ap (run p most (linesFrom (suc n) 0 r)) (close-last f q m ds d)
 
-  pub close-root : (f : Forest) (ds : List Said) → run most (linesFrom n 0 (text "..\n" ++ r)) (inside f [] ds) ≡ run most (linesFrom (suc n) 0 r) (closed f)
+  pub close-root : (f : Forest) (ds : List Said) → run p most (linesFrom n 0 (text "..\n" ++ r)) (inside f [] ds) ≡ run p most (linesFrom (suc n) 0 r) (closed f)
   close-root f ds = close-any f [] ds
 
-  pub root-line : 0 < most → run most (linesFrom n 0 (dirLine (text ".") ++ r)) (before none) ≡ run most (linesFrom (suc n) 0 r) (inside end [] (none ∷ []))
+  pub root-line : 0 < most → run p most (linesFrom n 0 (dirLine (text ".") ++ r)) (before none) ≡ run p most (linesFrom (suc n) 0 r) (inside end [] (none ∷ []))
   unfolding dirLine tailOf
-  root-line h = takes most n r _ _ (solid-dots .1) (omega arith) solid-dir (root-word most h)
+  root-line h = takes p most n r _ _ (solid-dots .1) (omega arith) solid-dir (root-word p most h)
 
 -- the line #mtree is skipped
 hash-len : (r : List ℕ) → lenIn (beginOf (classOf 35)) (text "mtree\n" ++ r) ≡ 6
@@ -179,10 +182,10 @@ hash-lines : (r : List ℕ) → linesFrom 1 0 (text "#mtree\n" ++ r) ≡ record 
 unfolding linesFrom
 hash-lines r = lines-head 1 35 (text "mtree\n") r refl (hash-len r)
 
-hash-does : (most : ℕ) (s : State) → lineDoes most (text "#mtree\n") s ≡ goes s
+hash-does : (p : Profile) (most : ℕ) (s : State) → lineDoes p most (text "#mtree\n") s ≡ goes s
 unfolding wordsDo isText wordsFrom span classOf
-hash-does most s = refl
+hash-does p most s = refl
 
-pub hash-line : (most : ℕ) (r : List ℕ) (s : State) → run most (linesFrom 1 0 (text "#mtree\n" ++ r)) s ≡ run most (linesFrom 2 0 r) s
+pub hash-line : (p : Profile) (most : ℕ) (r : List ℕ) (s : State) → run p most (linesFrom 1 0 (text "#mtree\n" ++ r)) s ≡ run p most (linesFrom 2 0 r) s
 unfolding run
-hash-line most r s = rw (hash-lines r, hash-does most s)
+hash-line p most r s = rw (hash-lines r, hash-does p most s)

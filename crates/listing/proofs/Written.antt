@@ -9,6 +9,7 @@ use lib.Seq.{take-append-seam}
 use Prim.Native.Nat.{ℕ, suc, _%_, _+_, _/_, _<_}
 use Rattle.tree.specs.Name.{Name}
 use Rattle.tree.specs.Rules.{NameRule, bytes}
+use Rattle.tree.specs.declared.Profile.{Profile}
 use Rattle.tree.proofs.Same.{and-true}
 use Rattle.listing.specs.Bytes.{classOf}
 use Rattle.listing.specs.Lines.{Line, beginOf, lenIn, linesFrom}
@@ -49,11 +50,11 @@ line-first n r {ws = ws} (back {d = d} {w = w} p s) h a =
     ∙ ap (λ (ls : List Line). record { number = n; bytes = 92 ∷ d ∷ w ++ tailOf ws } ∷ ls) (lines-line (plain p s) a r n)
 
 -- a line that goes on is passed
-pub takes : (most n : ℕ) (r : List ℕ) (s t : State) {w : List ℕ} {ws : Words} → Solid w → 0 < length w → AllSolid ws
-    → wordsDo most true (w ∷ ws) s ≡ goes t
-    → run most (linesFrom n 0 (w ++ tailOf ws ++ r)) s ≡ run most (linesFrom (suc n) 0 r) t
+pub takes : (p : Profile) (most n : ℕ) (r : List ℕ) (s t : State) {w : List ℕ} {ws : Words} → Solid w → 0 < length w → AllSolid ws
+    → wordsDo p most true (w ∷ ws) s ≡ goes t
+    → run p most (linesFrom n 0 (w ++ tailOf ws ++ r)) s ≡ run p most (linesFrom (suc n) 0 r) t
 unfolding run
-takes most n r s t {w} {ws} so h a e =
+takes p most n r s t {w} {ws} so h a e =
     rw (line-first n r so h a, text-solid (tailOf ws) so, text-tail a, words-solid (tailOf ws) so h (span-tail ws), words-tail a, e)
 
 -- a name's bytes as they are written

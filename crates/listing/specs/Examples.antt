@@ -1,4 +1,5 @@
--- Listings and what reading them gives, a row each: the text, the room in words, a number and line or the tree.
+-- Listings and what reading them gives, a row each: the text, the room in words, a number and line or the tree; and those
+-- that the profiles read differently.
 use mathlib.Core.Path.{_≡_}
 use mathlib.Core.List.{List, [], _∷_, _++_, map}
 use mathlib.Core.Bool.{cond}
@@ -7,6 +8,8 @@ use Prim.Native.Nat.{ℕ, _<_}
 use Prim.Native.String.{String}
 use Rattle.tree.specs.Name.{Name}
 use Rattle.tree.specs.Forest.{Forest, Forest.end, Forest.leaf, Forest.dir}
+use Rattle.tree.specs.declared.Profile.{Profile}
+use Rattle.tree.specs.declared.Profile.the-variants.{Exact, Folded}
 use Rattle.listing.specs.Bytes.{text}
 use Rattle.listing.specs.Reading.{Outcome, Outcome.refused, Outcome.accepted, answerOf, mostRows, reading}
 use Rattle.listing.specs.Writing.{asItIs, textOf}
@@ -221,16 +224,46 @@ places =
 abbrev pub examples : List Example
 examples = wholes ++ (defaults ++ (called ++ (entries ++ places)))
 
+-- a text after the root's line, and what comes of it in each profile
+pub record Cased : Type 0 where
+  pub lines : String
+  pub exact : Outcome
+  pub folded : Outcome
+
+-- both, where they are alike
+abbrev alike : String → Outcome → Cased
+alike t o = record { lines = t; exact = o; folded = o }
+
+-- read in that profile
+abbrev readIn : Profile → Cased → Outcome
+readIn p x = reading p (text ". type=dir\n" ++ text (x .lines)) 400
+
+-- a name twice, escaped or not, in the root and below; the order of siblings; other bytes than letters, and other folders
+abbrev pub cased : List Cased
+cased =
+    record { lines = "a type=dir\n..\n\\101 type=dir\n"; exact = accepted (folder 0x41000000 (folder 0x61000000 end)); folded = refused 13 4 } ∷
+    record { lines = "Ab type=dir\nxY type=dir\n..\nXy type=dir\n"; exact = accepted (dir (short 0x41620000) (folder 0x58790000 (folder 0x78590000 end)) end); folded = refused 13 5 } ∷
+    record { lines = "Day2 type=dir\n..\nday1 type=dir\n"; exact = accepted (folder 0x44617932 (folder 0x64617931 end)); folded = accepted (folder 0x64617931 (folder 0x44617932 end)) } ∷
+    record { lines = "B type=dir\n..\n_ type=dir\n"; exact = accepted (folder 0x42000000 (folder 0x5f000000 end)); folded = accepted (folder 0x5f000000 (folder 0x42000000 end)) } ∷
+    alike "A type=dir\na type=dir\n" (accepted (dir (short 0x41000000) (folder 0x61000000 end) end)) ∷
+    alike "\\301 type=dir\n..\n\\341 type=dir\n" (accepted (folder 0xc1000000 (folder 0xe1000000 end))) ∷
+    alike "@ type=dir\n..\n` type=dir\n..\n\\133 type=dir\n..\n{ type=dir\n" (accepted (folder 0x40000000 (folder 0x5b000000 (folder 0x60000000 (folder 0x7b000000 end))))) ∷
+    alike "a Type=file type=dir\n" (accepted (folder 0x61000000 end)) ∷
+    alike "a type=Dir\n" (refused 10 2) ∷
+    []
+
 -- those of the bytes that the writer leaves as they are
 unfoldable pub asTheyAre : List ℕ → List ℕ
 asTheyAre [] = []
 asTheyAre (b ∷ bs) = cond (asItIs b) (b ∷ asTheyAre bs) (asTheyAre bs)
 
--- every listing gives what its row says, and longer text is refused; the sample is written as shown, and no other bytes are left
--- as they are; rooms are counted in whole rows; what a caller gets
+-- in each profile every listing gives what its row says, and longer text is refused; the sample is written as shown, and no other
+-- bytes are left as they are; rooms are counted in whole rows; what a caller gets
 pub record ExamplesHold : Type 0 where
-  pub given : map (λ (x : Example). reading (x .listing) (x .room)) examples ≡ map (λ (x : Example). x .gives) examples
-  pub long : (t : List ℕ) (room : ℕ) → 65536 < length t → reading t room ≡ refused 6 0
+  pub given : (p : Profile) → map (λ (x : Example). reading p (x .listing) (x .room)) examples ≡ map (λ (x : Example). x .gives) examples
+  pub exact : map (readIn Exact) cased ≡ map (λ (x : Cased). x .exact) cased
+  pub folded : map (readIn Folded) cased ≡ map (λ (x : Cased). x .folded) cased
+  pub long : (p : Profile) (t : List ℕ) (room : ℕ) → 65536 < length t → reading p t room ≡ refused 6 0
   pub written : textOf sample ≡ sampleText
   pub plain : asTheyAre (upFrom 0 256) ≡ text "-.0123456789ABCDEFGHIJKLMNOPQRSTUVWXYZ_abcdefghijklmnopqrstuvwxyz"
   pub rows : map mostRows (81919 ∷ 81920 ∷ 81940 ∷ []) ≡ 4095 ∷ 4096 ∷ 4096 ∷ []

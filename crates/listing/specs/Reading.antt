@@ -1,4 +1,5 @@
--- Reading a listing: what a line does to the reader's state, and what a whole text answers.
+-- Reading a listing in a profile: what a line does to the reader's state, and what a whole text answers. Names are matched
+-- by key, and kept as the text spells them.
 use mathlib.Core.List.{List, [], _∷_, _++_}
 use mathlib.Core.Bool.{Bool, true, false, cond, _&&_}
 use lib.ListN.{length, take, getD, set}
@@ -7,7 +8,8 @@ use Prim.Native.Nat.{ℕ, suc, _-_, _/_, min}
 use Rattle.tree.specs.Name.{Name}
 use Rattle.tree.specs.Forest.{TreePath, Forest, Forest.end, Node, Node.absent, Node.file, Node.folder, kids, at, size}
 use Rattle.tree.specs.Same.{sameWords}
-use Rattle.tree.specs.Put.{put}
+use Rattle.tree.specs.Key.{fold, foldPath, putIn}
+use Rattle.tree.specs.declared.Profile.{Profile}
 use Rattle.listing.specs.Bytes.{text}
 use Rattle.listing.specs.Lines.{Line, lines}
 use Rattle.listing.specs.Words.{Words, words, values, isText}
@@ -37,7 +39,7 @@ front l = take (length l - 1) l
 -- after the root has closed nothing changes
 abbrev pub withDefault : Said → State → State
 withDefault v (before d) = before v
-withDefault v (inside f p ds) = inside f p (set ds (length ds - 1) v)
+withDefault v (inside f q ds) = inside f q (set ds (length ds - 1) v)
 withDefault v (closed f) = closed f
 
 -- no word
@@ -71,12 +73,12 @@ slashLine w ws s =
 -- the folder last opened is closed, the root included
 abbrev pub close : Forest → TreePath → List Said → State
 close f [] ds = closed f
-close f (n ∷ p) ds = inside f (front (n ∷ p)) (front ds)
+close f (n ∷ q) ds = inside f (front (n ∷ q)) (front ds)
 
 -- .. stands alone: 11, 9
 unfoldable pub closeLine : Words → State → Step
 closeLine ws (before d) = stops 11
-closeLine ws (inside f p ds) = cond (isEmpty ws) (goes (close f p ds)) (stops 9)
+closeLine ws (inside f q ds) = cond (isEmpty ws) (goes (close f q ds)) (stops 9)
 closeLine ws (closed f) = stops 11
 
 -- the root, where there is room for its row
@@ -87,14 +89,14 @@ rooted most d (holds x) = cond (ltb 0 most) (goes (inside end [] (d ∷ []))) (s
 -- . is the first entry: 11, 9 or 10, 3
 unfoldable pub rootLine : ℕ → Words → State → Step
 rootLine most ws (before d) = rooted most d (rootAs (typeIn d ws))
-rootLine most ws (inside f p ds) = stops 11
+rootLine most ws (inside f q ds) = stops 11
 rootLine most ws (closed f) = stops 11
 
 -- a folder entry opens itself, with the default in force
 abbrev pub opened : Name → Node → Forest → TreePath → List Said → State
-opened n absent f p ds = inside f p ds
-opened n (file c) f p ds = inside f p ds
-opened n (folder k) f p ds = inside f (p ++ (n ∷ [])) (ds ++ (inForce ds ∷ []))
+opened n absent f q ds = inside f q ds
+opened n (file c) f q ds = inside f q ds
+opened n (folder k) f q ds = inside f (q ++ (n ∷ [])) (ds ++ (inForce ds ∷ []))
 
 -- nothing stands there
 abbrev pub isAbsent : Node → Bool
@@ -102,39 +104,43 @@ isAbsent absent = true
 isAbsent (file c) = false
 isAbsent (folder k) = false
 
--- an entry of that name in the folder last opened: 14, 13, 3
-unfoldable pub placed : ℕ → Name → Node → Forest → TreePath → List Said → Step
-placed most n x f p ds =
-    cond (leb 16 (length p)) (stops 14)
-    (cond (isAbsent (at (folder f) (p ++ (n ∷ []))))
-    (cond (ltb (suc (size f)) most) (goes (opened n x (kids (put (p ++ (n ∷ [])) x (folder f))) p ds)) (stops 3))
+-- what stands at a path, by key
+abbrev pub atKey : Profile → Forest → TreePath → Node
+atKey p f q = at (folder (fold p f)) (foldPath p q)
+
+-- an entry of that name in the folder last opened: 14, 13 by key, 3
+unfoldable pub placed : Profile → ℕ → Name → Node → Forest → TreePath → List Said → Step
+placed p most n x f q ds =
+    cond (leb 16 (length q)) (stops 14)
+    (cond (isAbsent (atKey p f (q ++ (n ∷ []))))
+    (cond (ltb (suc (size f)) most) (goes (opened n x (kids (putIn p (q ++ (n ∷ [])) x (folder f))) q ds)) (stops 3))
     (stops 13))
 
 -- an entry, by what its words make of it
-abbrev pub entered : ℕ → Name → Entry → Forest → TreePath → List Said → Step
-entered most n (faulty k) f p ds = stops k
-entered most n (holds x) f p ds = placed most n x f p ds
+abbrev pub entered : Profile → ℕ → Name → Entry → Forest → TreePath → List Said → Step
+entered p most n (faulty k) f q ds = stops k
+entered p most n (holds x) f q ds = placed p most n x f q ds
 
 -- any other entry: 11, 8, 9 or 10, then its place
-unfoldable pub entryLine : ℕ → List ℕ → Words → State → Step
-entryLine most w ws (before d) = stops 11
-entryLine most w ws (inside f p ds) = cond (isName w) (entered most (nameOf w) (entryOf (inForce ds) ws) f p ds) (stops 8)
-entryLine most w ws (closed f) = stops 11
+unfoldable pub entryLine : Profile → ℕ → List ℕ → Words → State → Step
+entryLine p most w ws (before d) = stops 11
+entryLine p most w ws (inside f q ds) = cond (isName w) (entered p most (nameOf w) (entryOf (inForce ds) ws) f q ds) (stops 8)
+entryLine p most w ws (closed f) = stops 11
 
 -- a line by its words, and whether all its bytes are text: blank lines and comments are skipped, then 7 comes first
-unfoldable pub wordsDo : ℕ → Bool → Words → State → Step
-wordsDo most good [] s = goes s
-wordsDo most good (w ∷ ws) s =
+unfoldable pub wordsDo : Profile → ℕ → Bool → Words → State → Step
+wordsDo p most good [] s = goes s
+wordsDo p most good (w ∷ ws) s =
     cond (eqb (getD w 0 0) 35) (goes s)
     (cond good
     (cond (eqb (getD w 0 0) 47) (slashLine w ws s)
     (cond (sameWords w (text "..")) (closeLine ws s)
-    (cond (sameWords w (text ".")) (rootLine most ws s) (entryLine most w ws s))))
+    (cond (sameWords w (text ".")) (rootLine most ws s) (entryLine p most w ws s))))
     (stops 7))
 
 -- a line, by its bytes
-abbrev pub lineDoes : ℕ → List ℕ → State → Step
-lineDoes most line s = wordsDo most (isText line) (words line) s
+abbrev pub lineDoes : Profile → ℕ → List ℕ → State → Step
+lineDoes p most line s = wordsDo p most (isText line) (words line) s
 
 -- a number and a line, or the tree
 pub data Outcome : Type 0 where
@@ -155,7 +161,7 @@ answerOf (accepted f) = record { number = 0; side = 0; place = suc (size f) }
 -- folders may be open at the end
 abbrev pub ended : State → Outcome
 ended (before d) = refused 12 0
-ended (inside f p ds) = accepted f
+ended (inside f q ds) = accepted f
 ended (closed f) = accepted f
 
 -- a fault ends the run at its line
@@ -164,9 +170,9 @@ onStep (stops n) line k = refused n line
 onStep (goes s) line k = k s
 
 -- the lines in turn, up to the first faulty one
-unfoldable pub run : ℕ → List Line → State → Outcome
-run most [] s = ended s
-run most (l ∷ ls) s = onStep (lineDoes most (l .bytes) s) (l .number) (λ t. run most ls t)
+unfoldable pub run : Profile → ℕ → List Line → State → Outcome
+run p most [] s = ended s
+run p most (l ∷ ls) s = onStep (lineDoes p most (l .bytes) s) (l .number) (λ t. run p most ls t)
 
 -- the last byte is LF, unless there is none
 abbrev pub endsInLF : List ℕ → Bool
@@ -181,5 +187,5 @@ abbrev pub mostRows : ℕ → ℕ
 mostRows room = min 4096 (room / 20)
 
 -- a text read into a table of that many words
-unfoldable pub reading : List ℕ → ℕ → Outcome
-reading t room = cond (hasForm t) (run (mostRows room) (lines t) (before none)) (refused 6 0)
+unfoldable pub reading : Profile → List ℕ → ℕ → Outcome
+reading p t room = cond (hasForm t) (run p (mostRows room) (lines t) (before none)) (refused 6 0)

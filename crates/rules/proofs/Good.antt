@@ -12,7 +12,8 @@ use Rattle.row.specs.Table.{Row, depth, kind, name}
 use Rattle.tree.proofs.Same.{and-true}
 use Rattle.row.proofs.Flat.{Whole}
 use Rattle.row.proofs.Fits.{Formed, Fits}
-use Rattle.rules.specs.Rules.{deepest, depthRule, kindRule, ascends, okRow, lead}
+use Rattle.rules.specs.Rules.{deepest, depthRule, kindRule}
+use Rattle.rules.proofs.Plain.{ascends, okRow, lead}
 
 -- rows that follow the rows ps, the nearest first
 unfoldable pub Good : List Row → List Row → Type 0

@@ -2,9 +2,10 @@
 use mathlib.Core.Path.{_≡_}
 use mathlib.Core.List.{List}
 use Prim.Native.Nat.{ℕ}
+use Rattle.tree.specs.declared.Profile.{Profile}
 use Rattle.rules.specs.declared.Answer.{Answer}
 use Rattle.rules.specs.Contract.{CheckContract}
 use Rattle.rules.proofs.Says.{says-one}
 
-pub check-one : (t : List ℕ) (a b : Answer) → CheckContract t a → CheckContract t b → a ≡ b
-check-one t a b A B = says-one a b (A .says) (B .says)
+pub check-one : (p : Profile) (t : List ℕ) (a b : Answer) → CheckContract p t a → CheckContract p t b → a ≡ b
+check-one p t a b A B = says-one a b (A .says) (B .says)

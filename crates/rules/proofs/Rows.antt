@@ -7,17 +7,20 @@ use native.Mathlib.Nat.{not-suc-le-zero, add-zero, zero-add}
 use native.Mathlib.Numerals.{add-one, sub-one}
 use lib.Dec.{leb}
 use lib.ListN.{length, drop}
-use Prim.Native.Nat.{ℕ, zero, suc, _+_, _-_, _/_, _%_, _≤_, _<_, Ordering, Ordering·lt, Ordering·eq, Ordering·gt}
+use Prim.Native.Nat.{ℕ, zero, suc, _+_, _-_, _/_, _%_, _≤_, _<_}
 use borrow.Author.Tests.{eq-eqb, ne-eqb, lt-ltb, le-ltb, le-leb, lt-leb, leb-true, leb-false}
-use Rattle.tree.specs.Name.{cmp, byOrder}
+use Rattle.tree.specs.Name.{cmp}
+use Rattle.tree.specs.declared.Profile.{Profile}
+use Rattle.tree.specs.Key.{key}
 use Rattle.tree.specs.Rules.{zeros, goodName}
 use Rattle.row.specs.Table.{Row, rowAt, rows, depth, kind, name}
 use Rattle.row.specs.Order.{ordered}
 use Rattle.row.specs.declared.Order.{Order}
-use Rattle.row.specs.declared.Order.the-variants.{Less, Same, Greater}
+use Rattle.row.specs.declared.Order.the-variants.{Less}
 use Rattle.tree.proofs.Order.{compare-refl, compare-below, compare-above}
 use Rattle.row.proofs.Table.{rows-cons, rows-nil}
-use Rattle.rules.specs.Rules.{depthRule, kindRule, ascends, okRow, lead, sized, checked, before}
+use Rattle.rules.specs.Rules.{depthRule, kindRule, sized, before}
+use Rattle.rules.specs.Keyed.{sibling, inOrder, okRowIn, leadBy, lowest, checkedIn}
 use Rattle.rules.specs.declared.Checked.the-variants.{Fine, BadLength, BadRow}
 
 leb-down : (d e : ℕ) → 1 ≤ d → leb (d - 1) e ≡ leb d (e + 1)
@@ -37,57 +40,47 @@ module _ (p r : Row) {d e k : ℕ} (D : d ≡ depth r) (E : e ≡ depth p) (K : 
   unfolding depthRule
   depth-file n = rw (← D, ← E, ← K, le-leb _ _ low, le-leb _ _ high, ne-eqb _ _ n)
 
-abbrev pub isLess : Order → Bool
-isLess Less = true
-isLess Same = false
-isLess Greater = false
-
-less-ordered : (o : Ordering) → byOrder o true false false ≡ isLess (ordered o)
-less-ordered Ordering·lt = refl
-less-ordered Ordering·eq = refl
-less-ordered Ordering·gt = refl
-
--- whether row i comes after the sibling before it
-abbrev pub ascendsAt : List ℕ → ℕ → Bool
-ascendsAt w i = ascends (depth (rowAt w i)) (name (rowAt w i)) (before w i)
+-- how the sibling before row i stands to it
+abbrev pub siblingAt : Profile → List ℕ → ℕ → Order
+siblingAt p w i = sibling p (depth (rowAt w i)) (name (rowAt w i)) (before w i)
 
 -- that sibling, of depth d, is yet to be found before row j
-abbrev pub Sought : List ℕ → ℕ → ℕ → ℕ → Type 0
-Sought w i d j = ascendsAt w i ≡ ascends d (name (rowAt w i)) (before w j)
+abbrev pub Sought : Profile → List ℕ → ℕ → ℕ → ℕ → Type 0
+Sought p w i d j = siblingAt p w i ≡ sibling p d (name (rowAt w i)) (before w j)
 
-module _ (w : List ℕ) (i d : ℕ) where
-  pub sought-none : (j : ℕ) → Sought w i d j → j ≤ 0 → true ≡ ascendsAt w i
-  unfolding ascends before
+module _ (p : Profile) (w : List ℕ) (i d : ℕ) where
+  pub sought-none : (j : ℕ) → Sought p w i d j → j ≤ 0 → Less ≡ siblingAt p w i
+  unfolding sibling before
   sought-none zero s h = sym s
   sought-none (suc j) s h = absurd (not-suc-le-zero h)
 
-  pub sought-folder : (j : ℕ) → Sought w i d j → 0 < j → depth (rowAt w (j - 1)) < d → true ≡ ascendsAt w i
-  unfolding ascends before
+  pub sought-folder : (j : ℕ) → Sought p w i d j → 0 < j → depth (rowAt w (j - 1)) < d → Less ≡ siblingAt p w i
+  unfolding sibling before
   sought-folder zero s h e = absurd (not-suc-le-zero h)
   sought-folder (suc j) s h e = sym (s ∙ rw (compare-below (depth (rowAt w j)) d (rw sub-one at e)))
 
-  pub sought-sibling : (j : ℕ) {o : Order} → Sought w i d j → 0 < j → depth (rowAt w (j - 1)) ≡ d
-      → ordered (cmp (name (rowAt w (j - 1))) (name (rowAt w i))) ≡ o → isLess o ≡ ascendsAt w i
-  unfolding ascends before
-  sought-sibling zero s h e q = absurd (not-suc-le-zero h)
-  sought-sibling (suc j) s h e q =
+  pub sought-sibling : (j : ℕ) → Sought p w i d j → 0 < j → depth (rowAt w (j - 1)) ≡ d
+      → ordered (cmp (key p (name (rowAt w (j - 1)))) (key p (name (rowAt w i)))) ≡ siblingAt p w i
+  unfolding sibling before
+  sought-sibling zero s h e = absurd (not-suc-le-zero h)
+  sought-sibling (suc j) s h e =
       let g : depth (rowAt w j) ≡ d = rw sub-one at e in
-      sym (s ∙ rw (g, compare-refl, ← q, sub-one) (less-ordered (cmp (name (rowAt w j)) (name (rowAt w i)))))
+      sym (s ∙ rw (g, compare-refl, sub-one))
 
-  pub sought-deeper : (j : ℕ) → Sought w i d j → 0 < j → d < depth (rowAt w (j - 1)) → Sought w i d (j - 1)
-  unfolding ascends before
+  pub sought-deeper : (j : ℕ) → Sought p w i d j → 0 < j → d < depth (rowAt w (j - 1)) → Sought p w i d (j - 1)
+  unfolding sibling before
   sought-deeper zero s h e = absurd (not-suc-le-zero h)
   sought-deeper (suc j) s h e = s ∙ rw (compare-above (depth (rowAt w j)) d (rw sub-one at e), sub-one)
 
 -- row 0, and any other
-module _ (w : List ℕ) where
-  pub ok-root : (i : ℕ) → i ≡ 0 → okRow (before w i) (rowAt w i) ≡ zeros (rowAt w i)
-  unfolding okRow before
+module _ (p : Profile) (w : List ℕ) where
+  pub ok-root : (i : ℕ) → i ≡ 0 → okRowIn p (before w i) (rowAt w i) ≡ zeros (rowAt w i)
+  unfolding okRowIn before
   ok-root i h = rw h
 
-  pub ok-row : (i : ℕ) → 0 < i → okRow (before w i) (rowAt w i)
-      ≡ (depthRule (rowAt w (i - 1)) (rowAt w i) && goodName (name (rowAt w i)) && kindRule (rowAt w i) && ascends (depth (rowAt w i)) (name (rowAt w i)) (before w i))
-  unfolding okRow before
+  pub ok-row : (i : ℕ) → 0 < i → okRowIn p (before w i) (rowAt w i)
+      ≡ (depthRule (rowAt w (i - 1)) (rowAt w i) && goodName (name (rowAt w i)) && kindRule (rowAt w i) && inOrder p (siblingAt p w i))
+  unfolding okRowIn before
   ok-row zero h = absurd (not-suc-le-zero h)
   ok-row (suc i) h = rw sub-one
 
@@ -109,33 +102,38 @@ module _ (w : List ℕ) where
   unfolding sized
   sized-true m h g = rw (eq-eqb _ _ m, le-leb _ _ h, le-leb _ _ g)
 
-pub checked-length : (w : List ℕ) → sized w ≡ false → checked w ≡ BadLength
-unfolding checked
-checked-length w e = rw e
+pub checked-length : (p : Profile) (w : List ℕ) → sized w ≡ false → checkedIn p w ≡ BadLength
+unfolding checkedIn
+checked-length p w e = rw e
 
--- the rows before row i are good: the lowest broken row is i or a later one
-abbrev pub Passed : List ℕ → ℕ → Type 0
-Passed w i = lead [] (rows w) ≡ i + lead (before w i) (drop i (rows w))
+pub checked-lowest : (p : Profile) (w : List ℕ) → sized w ≡ true → checkedIn p w ≡ lowest (okRowIn p) w
+unfolding checkedIn
+checked-lowest p w e = rw e
 
-pub passed-none : (w : List ℕ) → Passed w 0
-unfolding before
-passed-none w = sym (zero-add (lead [] (rows w)))
+-- the rows before row i pass a test: the lowest that fails it is i or a later one
+module _ (t : List Row → Row → Bool) (w : List ℕ) where
+  abbrev pub Passed : ℕ → Type 0
+  Passed i = leadBy t [] (rows w) ≡ i + leadBy t (before w i) (drop i (rows w))
 
-module _ (w : List ℕ) (i : ℕ) where
-  pub passed-next : i < length w / 20 → okRow (before w i) (rowAt w i) ≡ true → Passed w i → Passed w (i + 1)
-  unfolding lead before
-  passed-next h e p =
-      let q : lead (before w i) (drop i (rows w)) ≡ suc (lead (before w (i + 1)) (drop (i + 1) (rows w))) = rw (rows-cons w i h, e, add-one) in
-      omega arith
+  pub passed-none : Passed 0
+  unfolding before
+  passed-none = sym (zero-add (leadBy t [] (rows w)))
 
-  pub checked-row : sized w ≡ true → i < length w / 20 → okRow (before w i) (rowAt w i) ≡ false → Passed w i → checked w ≡ BadRow i
-  unfolding lead checked
-  checked-row s h e p =
-      let q : lead [] (rows w) ≡ i = p ∙ rw (rows-cons w i h, e, add-zero) in
-      rw (s, q, lt-ltb _ _ h)
+  module _ (i : ℕ) where
+    pub passed-next : i < length w / 20 → t (before w i) (rowAt w i) ≡ true → Passed i → Passed (i + 1)
+    unfolding leadBy before
+    passed-next h e p =
+        let q : leadBy t (before w i) (drop i (rows w)) ≡ suc (leadBy t (before w (i + 1)) (drop (i + 1) (rows w))) = rw (rows-cons w i h, e, add-one) in
+        omega arith
 
-  pub checked-fine : sized w ≡ true → length w / 20 ≤ i → Passed w i → checked w ≡ Fine
-  unfolding lead checked
-  checked-fine s h p =
-      let q : lead [] (rows w) ≡ i = p ∙ rw (rows-nil w i h, add-zero) in
-      rw (s, q, le-ltb _ _ h)
+    pub lowest-row : i < length w / 20 → t (before w i) (rowAt w i) ≡ false → Passed i → lowest t w ≡ BadRow i
+    unfolding leadBy lowest
+    lowest-row h e p =
+        let q : leadBy t [] (rows w) ≡ i = p ∙ rw (rows-cons w i h, e, add-zero) in
+        rw (q, lt-ltb _ _ h)
+
+    pub lowest-fine : length w / 20 ≤ i → Passed i → lowest t w ≡ Fine
+    unfolding leadBy lowest
+    lowest-fine h p =
+        let q : leadBy t [] (rows w) ≡ i = p ∙ rw (rows-nil w i h, add-zero) in
+        rw (q, le-ltb _ _ h)

@@ -10,7 +10,7 @@ use Rattle.row.specs.Table.{Row, depth, kind, name, content}
 use Rattle.row.specs.Tree.{entryOf, siblings}
 use Rattle.tree.proofs.Order.{Cmp, Cmp.less, Cmp.same, Cmp.more, view, compare-refl, compare-above}
 use Rattle.tree.proofs.Forest.{above-trans}
-use Rattle.rules.specs.Rules.{ascends}
+use Rattle.rules.proofs.Plain.{ascends}
 use Rattle.rules.proofs.Good.{Good, ok-follows}
 
 -- the sibling before, n, is the nearest at depth d: it decides whether a name may come next

@@ -13,7 +13,8 @@ use Rattle.row.specs.Table.{Row, depth, kind, name}
 use Rattle.row.specs.Tree.{fileRow, folderRow, rowsOf, nodeRows, rootName}
 use Rattle.tree.proofs.Order.{compare-refl, compare-below, compare-above}
 use Rattle.row.proofs.Tree.{name-folder, name-file}
-use Rattle.rules.specs.Rules.{deepest, kindRule, ascends, okRow}
+use Rattle.rules.specs.Rules.{deepest, kindRule}
+use Rattle.rules.proofs.Plain.{ascends, okRow}
 use Rattle.rules.proofs.Good.{Good, good-append, follows-ok}
 
 -- a tree's rows are of a good kind

@@ -8,7 +8,7 @@ use Rattle.tree.specs.Forest.{Forest, size}
 use Rattle.tree.specs.Rules.{Words32, WellFormed}
 use Rattle.row.specs.Tree.{table, treeOf}
 use Rattle.rules.specs.declared.Checked.the-variants.{Fine}
-use Rattle.rules.specs.Rules.{checked}
+use Rattle.rules.proofs.Plain.{checked}
 use Rattle.rules.proofs.Fine.{fine-most, fine-table, fine-length, fine-formed, table-fine}
 
 pub fine-tables : (w : List ℕ) → Words32 w → (checked w ≡ Fine) ↔ ((f : Forest) × WellFormed f × (suc (size f) ≤ 4096) × (w ≡ table f))

@@ -1,13 +1,20 @@
 // The row rules: which row of a table is the lowest that breaks them, and the call that answers it.
+use row::Order;
+use tree::Profile;
 ghost use mathlib.Core.Path.{_≡_};
 ghost use mathlib.Core.List.{_∷_, []};
 ghost use Prim.Native.Nat.{_+_, _-_, _*_, _≤_, _<_};
 ghost use lib.ListN.{length, drop, getD};
 ghost use Rattle.tree.specs.Rules.{zeros, bytes, zeroFilled, goodName};
+ghost use Rattle.tree.specs.Name.{cmp};
+ghost use Rattle.tree.specs.Key.{key};
+ghost use Rattle.tree.specs.declared.Profile.the-variants.{Folded};
+ghost use Rattle.row.specs.Order.{ordered};
 ghost use Rattle.row.specs.Table.{rowAt, name, depth};
-ghost use Rattle.rules.specs.Rules.{before, depthRule, kindRule, ascends, okRow, checked};
+ghost use Rattle.rules.specs.Rules.{before, depthRule, kindRule};
+ghost use Rattle.rules.specs.Keyed.{sibling as siblingOf, inOrder, isSame, noTwin, okRowIn, lowest, checkedIn, twins};
 ghost use Rattle.rules.specs.Low.{lowBytes};
-ghost use Rattle.rules.specs.Refusal.{refusalOf};
+ghost use Rattle.rules.specs.Refusal.{refusalOf, twinsDue};
 ghost use Rattle.rules.specs.Faults.{firstRefusal, unless, roomRule};
 ghost use Rattle.rules.specs.Contract.{CheckContract};
 
@@ -158,35 +165,56 @@ fn kind_ok(t: &[u32], i: usize) -> bool
     k == 1
 }
 
-// Whether the sibling before row i, if there is one, has a smaller name.
-fn ascending(t: &[u32], i: usize) -> bool
+// The order of the names of rows i and j by their keys.
+fn compare_rows(profile: Profile, t: &[u32], i: usize, j: usize) -> Order
+    requires { ⌜ (20 * i + 20 ≤ length (now t)) × (20 * j + 20 ≤ length (now t)) ⌝ }
+    ensures { λ r. ⌜ r ≡ ordered (cmp (key profile (name (rowAt (now (t .entry)) i))) (key profile (name (rowAt (now (t .entry)) j)))) ⌝ }
+{
+    let p = 20 * i + 2;
+    let pe = p + 8;
+    let q = 20 * j + 2;
+    let qe = q + 8;
+    row::compare_keys(profile, &t[p..pe], &t[q..qe])
+}
+
+// How the sibling before row i stands to it, by their keys; less where there is none.
+fn sibling(profile: Profile, t: &[u32], i: usize) -> Order
     requires { ⌜ 20 * i + 20 ≤ length (now t) ⌝ }
-    ensures { λ r. ⌜ r ≡ ascends (depth (rowAt (now (t .entry)) i)) (name (rowAt (now (t .entry)) i)) (before (now (t .entry)) i) ⌝ }
+    ensures { λ r. ⌜ r ≡ siblingOf profile (depth (rowAt (now (t .entry)) i)) (name (rowAt (now (t .entry)) i)) (before (now (t .entry)) i) ⌝ }
 {
     let d = row::word(t, i, 0);
     let mut j = i;
     while 0 < j {
         let e = row::word(t, j - 1, 0);
         if e < d {
-            return true;
+            return Order::Less;
         }
         if e == d {
-            let c = row::compare_names(t, j - 1, t, i);
-            return match c {
-                row::Order::Less => true,
-                row::Order::Same => false,
-                row::Order::Greater => false,
-            };
+            return compare_rows(profile, t, j - 1, i);
         }
         j -= 1;
     }
-    true
+    Order::Less
 }
 
-// Whether row i may follow the rows before it.
-fn row_ok(t: &[u32], i: usize) -> bool
+// Whether a row may follow a sibling that stands so to it, as far as number 2 goes.
+fn in_order(profile: Profile, o: Order) -> bool
+    ensures { λ r. ⌜ r ≡ inOrder profile o ⌝ }
+{
+    match o {
+        Order::Less => true,
+        Order::Same => match profile {
+            Profile::Exact => false,
+            Profile::Folded => true,
+        },
+        Order::Greater => false,
+    }
+}
+
+// Whether row i may follow the rows before it, as far as number 2 goes.
+fn row_ok(profile: Profile, t: &[u32], i: usize) -> bool
     requires { ⌜ 20 * i + 20 ≤ length (now t) ⌝ }
-    ensures { λ r. ⌜ r ≡ okRow (before (now (t .entry)) i) (rowAt (now (t .entry)) i) ⌝ }
+    ensures { λ r. ⌜ r ≡ okRowIn profile (before (now (t .entry)) i) (rowAt (now (t .entry)) i) ⌝ }
 {
     let a = 20 * i;
     let b = a + 20;
@@ -198,16 +226,16 @@ fn row_ok(t: &[u32], i: usize) -> bool
     if depth_ok(t, i) {
         if good_name(&t[p..q]) {
             if kind_ok(t, i) {
-                return ascending(t, i);
+                return in_order(profile, sibling(profile, t, i));
             }
         }
     }
     false
 }
 
-// What is wrong with a table: its length, or the lowest row that breaks the rules.
-pub fn check(t: &[u32]) -> Checked
-    ensures { λ r. ⌜ r ≡ checked (now (t .entry)) ⌝ }
+// What is wrong with a table for numbers 1 and 2: its length, or the lowest row that breaks the rules.
+pub fn check(profile: Profile, t: &[u32]) -> Checked
+    ensures { λ r. ⌜ r ≡ checkedIn profile (now (t .entry)) ⌝ }
 {
     let n = t.len() / 20;
     if t.len() % 20 != 0 {
@@ -221,13 +249,51 @@ pub fn check(t: &[u32]) -> Checked
     }
     let mut i = 0;
     while i < n {
-        if row_ok(t, i) {
+        if row_ok(profile, t, i) {
             i += 1;
         } else {
             return Checked::BadRow(i);
         }
     }
     Checked::Fine
+}
+
+// Whether row i is not equal after folding to the sibling before it.
+fn no_twin(t: &[u32], i: usize) -> bool
+    requires { ⌜ 20 * i + 20 ≤ length (now t) ⌝ }
+    ensures { λ r. ⌜ r ≡ noTwin Folded (before (now (t .entry)) i) (rowAt (now (t .entry)) i) ⌝ }
+{
+    match sibling(Profile::Folded, t, i) {
+        Order::Less => true,
+        Order::Same => false,
+        Order::Greater => true,
+    }
+}
+
+// The lowest row that is equal after folding to the sibling before it.
+fn lowest_twin(t: &[u32]) -> Checked
+    ensures { λ r. ⌜ r ≡ lowest (noTwin Folded) (now (t .entry)) ⌝ }
+{
+    let n = t.len() / 20;
+    let mut i = 0;
+    while i < n {
+        if no_twin(t, i) {
+            i += 1;
+        } else {
+            return Checked::BadRow(i);
+        }
+    }
+    Checked::Fine
+}
+
+// What is wrong with a table for number 16.
+pub fn find_twins(profile: Profile, t: &[u32]) -> Checked
+    ensures { λ r. ⌜ r ≡ twins profile (now (t .entry)) ⌝ }
+{
+    match profile {
+        Profile::Exact => Checked::Fine,
+        Profile::Folded => lowest_twin(t),
+    }
 }
 
 // The answer to a table of a side: numbers 1 and 2.
@@ -243,6 +309,21 @@ pub fn refusal(c: Checked, side: u32) -> Answer
         },
         Checked::BadRow(i) => Answer::Refused {
             number: 2,
+            side,
+            place: i,
+        },
+    }
+}
+
+// The answer to a table of a side: number 16.
+pub fn twins_refusal(c: Checked, side: u32) -> Answer
+    ensures { λ r. ⌜ r ≡ twinsDue c side ⌝ }
+{
+    match c {
+        Checked::Fine => Answer::Accepted { place: 0 },
+        Checked::BadLength => Answer::Accepted { place: 0 },
+        Checked::BadRow(i) => Answer::Refused {
+            number: 16,
             side,
             place: i,
         },
@@ -287,9 +368,10 @@ pub fn has_room(n: usize, lent: usize) -> bool
     false
 }
 
-// Whether a table keeps the rules: numbers 1 and 2, side 1.
-pub fn check_table(t: &[u32]) -> Answer
-    ensures { λ r. ⌜ CheckContract (now (t .entry)) r ⌝ }
+// Whether a table keeps the rules of a profile: numbers 1, 2 and 16, side 1.
+pub fn check_table(profile: Profile, t: &[u32]) -> Answer
+    ensures { λ r. ⌜ CheckContract profile (now (t .entry)) r ⌝ }
 {
-    refusal(check(t), 1)
+    let due = refusal(check(profile, t), 1);
+    first_of(due, twins_refusal(find_twins(profile, t), 1))
 }

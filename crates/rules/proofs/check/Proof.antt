@@ -2,50 +2,59 @@
 use mathlib.Core.Path.{sym, _∙_}
 use Prim.Native.Nat.{_-_, _≤_}
 use borrow.Author.Needs.{needs}
-use Rattle.rules.proofs.Rows.{Passed, sized-true, sized-odd, sized-none, sized-many, passed-none, passed-next, checked-length, checked-row, checked-fine}
+use Rattle.rules.specs.Keyed.{okRowIn}
+use Rattle.rules.proofs.Rows.{Passed, sized-true, sized-odd, sized-none, sized-many, passed-none, passed-next, checked-length, checked-lowest, lowest-row, lowest-fine}
 use Rattle.rules.proofs.check.Statement.{statement}
 use Rattle.rules.proofs.check.Tie as tie
 
 abbrev Inv-loop : tie.InvT-loop
-Inv-loop t n i₀ i = (i ≤ n) × Passed t i
+Inv-loop profile t n i₀ i = (i ≤ n) × Passed (okRowIn profile) t i
 
 abbrev μ-loop : tie.MeasureT-loop
-μ-loop t n i₀ i = n - i
+μ-loop profile t n i₀ i = n - i
 
 returns : tie.Need-returns Inv-loop μ-loop
-returns c = sym (checked-length (c .before .before .args .t .now) (sized-odd (c .before .before .args .t .now) (c .if1 .taken)))
+returns c = let a = c .before .before .args in sym (checked-length (a .profile) (a .t .now) (sized-odd (a .t .now) (c .if1 .taken)))
 
 returns-2 : tie.Need-returns-2 Inv-loop μ-loop
 returns-2 c =
-    let w = c .before .before .before .args .t .now in
-    sym (checked-length w (sized-none w (search needs) (search needs)))
+    let a = c .before .before .before .args in
+    let w = a .t .now in
+    sym (checked-length (a .profile) w (sized-none w (search needs) (search needs)))
 
 returns-3 : tie.Need-returns-3 Inv-loop μ-loop
 returns-3 c =
-    let w = c .before .before .before .before .args .t .now in
-    sym (checked-length w (sized-many w (search needs) (search needs) (search needs)))
+    let a = c .before .before .before .before .args in
+    let w = a .t .now in
+    sym (checked-length (a .profile) w (sized-many w (search needs) (search needs) (search needs)))
 
 loop-holds : tie.Need-loop-holds Inv-loop μ-loop
-loop-holds c = (search needs, passed-none (c .before .before .before .before .args .t .now))
+loop-holds c = let a = c .before .before .before .before .args in (search needs, passed-none (okRowIn (a .profile)) (a .t .now))
 
 loop-again : tie.Need-loop-again Inv-loop μ-loop
 loop-again c =
     let l = c .before .before .before in
-    let w = l .before .before .before .before .before .args .t .now in
-    (search needs, passed-next w (l .loop .i) (search needs) (sym (c .before .row-ok .ensures) ∙ c .if4 .taken) (l .loop .inv .1))
+    let a = l .before .before .before .before .before .args in
+    let w = a .t .now in
+    let t = okRowIn (a .profile) in
+    (search needs, passed-next t w (l .loop .i) (search needs) (sym (c .before .row-ok .ensures) ∙ c .if4 .taken) (l .loop .inv .1))
 
 returns-4 : tie.Need-returns-4 Inv-loop μ-loop
 returns-4 c =
     let l = c .before .before .before in
-    let w = l .before .before .before .before .before .args .t .now in
-    sym (checked-row w (l .loop .i) (sized-true w (search needs) (search needs) (search needs)) (search needs)
-    (sym (c .before .row-ok .ensures) ∙ c .if4 .left) (l .loop .inv .1))
+    let a = l .before .before .before .before .before .args in
+    let w = a .t .now in
+    let t = okRowIn (a .profile) in
+    sym (checked-lowest (a .profile) w (sized-true w (search needs) (search needs) (search needs))
+    ∙ lowest-row t w (l .loop .i) (search needs) (sym (c .before .row-ok .ensures) ∙ c .if4 .left) (l .loop .inv .1))
 
 returns-5 : tie.Need-returns-5 Inv-loop μ-loop
 returns-5 c =
     let l = c .before in
-    let w = l .before .before .before .before .before .args .t .now in
-    sym (checked-fine w (l .loop .i) (sized-true w (search needs) (search needs) (search needs)) (search needs) (l .loop .inv .1))
+    let a = l .before .before .before .before .before .args in
+    let w = a .t .now in
+    let t = okRowIn (a .profile) in
+    sym (checked-lowest (a .profile) w (sized-true w (search needs) (search needs) (search needs)) ∙ lowest-fine t w (l .loop .i) (search needs) (l .loop .inv .1))
 
 pub check-spec : {M : Type 1} → statement M
 check-spec =
