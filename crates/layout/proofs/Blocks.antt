@@ -6,7 +6,7 @@ use lib.ListN.{length, set, length-set}
 use lib.Seq.{set-getD, set-set}
 use Prim.Native.Nat.{ℕ, suc, _-_, _<_, _≤_}
 use Rattle.tree.specs.Name.{Name}
-use Rattle.tree.specs.Forest.{Content, Forest, Forest.end, Node, Node.absent, Node.file, Node.folder, TreePath, Present, Sorted, SortedNode, size}
+use Rattle.tree.specs.Forest.{Content, Forest, Forest.end, Node, Node.file, Node.folder, TreePath, Present, Sorted, SortedNode, size}
 use Rattle.tree.specs.Key.{fold, foldNode, updateIn}
 use Rattle.tree.specs.declared.Profile.{Profile}
 use Rattle.tree.proofs.Never.{never}
@@ -39,7 +39,7 @@ pub both : (r : Step) (k : State → Step) (s : State) → andThen r k ≡ goes 
 both (stops n) k s e = never (cc)
 both (goes t) k s e = record { between = t; first = refl; second = e }
 
--- the lines put the entry n, which is x, into a folder that has none of that name
+-- the lines put the entry n, which is x, into a folder that has none of its key
 pub record Puts (p : Profile) (most : ℕ) (q : TreePath) (d : Said) (n : Name) (x : Node) (ls : List (List ℕ)) : Type 0 where
   pub there : Present x
   pub sorted : SortedNode (foldNode p x)
@@ -128,7 +128,6 @@ module _ {p : Profile} {most : ℕ} {q : TreePath} {d : Said} where
         grows = omega (arith, size-new p n x k sk free);
         sorted = F .sorted;
         does = λ f ds i room.
-            let sn = sorted-updateIn p n x (P .sorted) k sk in
             let fits : suc (size (fill p q (updateIn p n x k) f)) ≤ most = omega (arith, size-fill (has i) j, size-fill (has i) (updateIn p n x k)) in
             let same = fill-fill (has i) (updateIn p n x k) j in
             let rest : suc (size (fill p q j (fill p q (updateIn p n x k) f))) ≤ most = rw same room in

@@ -1,4 +1,4 @@
--- Laws of listings. The promises: Examples, RoundTrip, Accepted; below them, from bytes up, what they rest on.
+-- Laws of listings. The promises: Examples, RoundTrip, Accepted, Keyed; below them, from bytes up, what they rest on.
 pub mod Table
 pub mod Bytes
 pub mod Spelling
@@ -13,4 +13,5 @@ pub mod Parent
 pub mod Kept
 pub mod Entered
 pub mod Accepted
+pub mod Keyed
 pub mod Examples

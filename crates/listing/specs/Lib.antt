@@ -8,5 +8,6 @@ pub mod Entries
 pub mod Reading
 pub mod Writing
 pub mod Accepted
+pub mod Keyed
 pub mod RoundTrip
 pub mod Examples

@@ -1,46 +1,70 @@
 -- The contract kept, check by check.
-use mathlib.Core.Path.{_≡_, refl}
-use mathlib.Core.List.{List}
-use mathlib.Core.Bool.{true, false, cond}
-use lib.Dec.{eqb, leb}
+use mathlib.Core.Path.{_≡_, refl, sym, subst, _∙_}
+use mathlib.Core.List.{List, [], _∷_}
+use mathlib.Core.Bool.{Bool, true, false, cond}
+use lib.Dec.{leb}
 use lib.ListN.{length}
 use Prim.Native.Nat.{ℕ, _≤_}
 use borrow.Author.Tests.{leb-true}
+use Rattle.tree.specs.declared.Profile.{Profile}
 use Rattle.row.specs.Buffer.{over}
 use Rattle.row.specs.Tree.{treeOf}
 use Rattle.rules.specs.declared.Answer.{Answer}
 use Rattle.rules.specs.declared.Answer.the-variants.{Accepted, Refused}
-use Rattle.rules.specs.declared.Checked.the-variants.{Fine, BadLength, BadRow}
-use Rattle.rules.specs.Answer.{numberOf, isAccepted}
-use Rattle.rules.specs.Refusal.{refusalOf}
-use Rattle.rules.specs.Rules.{checked}
+use Rattle.rules.specs.Answer.{isAccepted}
+use Rattle.rules.specs.Faults.{firstRefusal}
+use Rattle.rules.specs.Contract.{checkDue, CheckContract}
+use Rattle.rules.proofs.Says.{Numbered, says-due, All, numbered-first, numbered-check}
+use Rattle.rules.proofs.Passing.{check-is}
 use Rattle.listing.specs.Writing.{textOf}
 use Rattle.tree.proofs.Same.{and-true}
-use Rattle.listing_write.specs.Contract.{fits, answerDue, WriteContract}
+use Rattle.listing_write.specs.Contract.{fits, textDue, answerDue, Written, WriteContract}
 
-module _ (w d : List ℕ) where
-  -- an answer that is due
-  keeps : (a : Answer) {after : List ℕ} → answerDue w (length d) ≡ a → isAccepted a ≡ eqb (numberOf a) 0
-      → after ≡ cond (isAccepted a) (over d (textOf (treeOf w))) d → WriteContract w d a after
-  keeps a e g h = record { says = rw e (record { number-due = refl; side-due = refl; place-due = refl; accepted = g }); written = rw e h }
-
-  pub bad-length : checked w ≡ BadLength → WriteContract w d (refusalOf BadLength 1) d
-  unfolding answerDue
-  bad-length e = keeps (refusalOf BadLength 1) (rw e) refl refl
-
-  pub bad-row : (i : ℕ) → checked w ≡ BadRow i → WriteContract w d (refusalOf (BadRow i) 1) d
-  unfolding answerDue
-  bad-row i e = keeps (refusalOf (BadRow i) 1) (rw e) refl refl
+-- a text that has room, or has not
+module _ (s d : List ℕ) where
+  pub done : fits (length s) (length d) ≡ true → Written (textDue s (length d)) s d (Accepted (length s)) (over d s)
+  done h = record { answered = rw h; text = rw h }
 
   -- number 3
-  pub no-room : checked w ≡ Fine → fits (length (textOf (treeOf w))) (length d) ≡ false → WriteContract w d (Refused 3 1 0) d
-  unfolding answerDue
-  no-room e h = keeps (Refused 3 1 0) (rw (e, h)) refl refl
+  pub no-room : fits (length s) (length d) ≡ false → Written (textDue s (length d)) s d (Refused 3 1 0) d
+  no-room h = record { answered = rw h; text = rw h }
 
-  pub done : checked w ≡ Fine → fits (length (textOf (treeOf w))) (length d) ≡ true
-      → WriteContract w d (Accepted (length (textOf (treeOf w)))) (over d (textOf (treeOf w)))
-  unfolding answerDue
-  done e h = keeps (Accepted (length (textOf (treeOf w)))) (rw (e, h)) refl refl
+  numbered-text : Numbered (textDue s (length d))
+  numbered-text = go (fits (length s) (length d))
+    where
+      go : (b : Bool) → Numbered (cond b (Accepted (length s)) (Refused 3 1 0))
+      go true = refl
+      go false = refl
+
+module _ (p : Profile) (w d : List ℕ) where
+  numbered-due : Numbered (answerDue p w (length d))
+  unfolding answerDue All
+  numbered-due = numbered-first (checkDue p w ∷ []) (textDue (textOf (treeOf w)) (length d)) (numbered-check p w, tt) (numbered-text (textOf (treeOf w)) d)
+
+  -- what is written as it is due meets the contract
+  keeps : (a : Answer) (after : List ℕ) → Written (answerDue p w (length d)) (textOf (treeOf w)) d a after → WriteContract p w d a after
+  keeps a after W = record { says = rw (W .answered) (says-due (answerDue p w (length d)) numbered-due); written = W .text }
+
+  -- the table passes, and its text is written
+  pub passes : (a b : Answer) (place : ℕ) (after : List ℕ) → CheckContract p w b → b ≡ Accepted place → Written (textDue (textOf (treeOf w)) (length d)) (textOf (treeOf w)) d a after → WriteContract p w d a after
+  unfolding answerDue firstRefusal
+  passes a b place after C e W =
+      let h : answerDue p w (length d) ≡ textDue (textOf (treeOf w)) (length d) = due (sym (check-is p w b C) ∙ e) in
+      keeps a after (subst (λ (x : Answer). Written x (textOf (treeOf w)) d a after) (sym h) W)
+    where
+      due : checkDue p w ≡ Accepted place → answerDue p w (length d) ≡ textDue (textOf (treeOf w)) (length d)
+      due e = rw e
+
+  -- it does not, and nothing is touched
+  pub stops : (b : Answer) (n side place : ℕ) → CheckContract p w b → b ≡ Refused n side place → WriteContract p w d b d
+  unfolding answerDue firstRefusal
+  stops b n side place C e = keeps b d (record { answered = due (check-is p w b C); text = rest (sym (check-is p w b C) ∙ e) })
+    where
+      due : b ≡ checkDue p w → b ≡ answerDue p w (length d)
+      due f = f ∙ rw (sym f ∙ e)
+
+      rest : checkDue p w ≡ Refused n side place → d ≡ cond (isAccepted (answerDue p w (length d))) (over d (textOf (treeOf w))) d
+      rest f = rw f
 
 pub fits-lent : (n room : ℕ) → fits n room ≡ true → n ≤ room
 unfolding fits

@@ -7,7 +7,7 @@ use Prim.Native.Nat.{ℕ, zero, suc, _+_, _-_, _≤_}
 use borrow.Author.Tests.{ne-eqb}
 use Rattle.tree.specs.Forest.{Content, Forest, Forest.end, Forest.leaf, Forest.dir, Node.folder}
 use Rattle.tree.specs.Name.{Name}
-use Rattle.tree.specs.Rules.{NameRule, ContentRule, Within, WellFormed}
+use Rattle.tree.specs.Rules.{NameRule, ContentRule, Within}
 use Rattle.row.specs.Table.{Row, rows, depth, kind}
 use Rattle.row.specs.Tree.{fileRow, folderRow, rowsOf, nodeRows, rootName}
 use Rattle.listing.specs.Bytes.{text}
@@ -84,11 +84,11 @@ lines-rows (suc k) d m (dir n j s) rs w h g =
     )
     (simp append-assoc)
 
-lines-tree : (f : Forest) → WellFormed f → linesFrom 1 (rowsOf 1 f) ≡ linesOf f ++ text "..\n"
+lines-tree : (f : Forest) → Within NameRule ContentRule 16 f → linesFrom 1 (rowsOf 1 f) ≡ linesOf f ++ text "..\n"
 unfolding linesFrom dots Ended
-lines-tree f W = ap (linesFrom 1) (sym (append-nil (rowsOf 1 f))) ∙ lines-rows 16 1 1 f [] (W .within) tt (omega arith)
+lines-tree f W = ap (linesFrom 1) (sym (append-nil (rowsOf 1 f))) ∙ lines-rows 16 1 1 f [] W tt (omega arith)
 
 -- a whole tree's rows
-pub listing-text : (w : List ℕ) (f : Forest) → WellFormed f → rows w ≡ nodeRows 0 rootName (folder f) → textByRows w ≡ textOf f
+pub listing-text : (w : List ℕ) (f : Forest) → Within NameRule ContentRule 16 f → rows w ≡ nodeRows 0 rootName (folder f) → textByRows w ≡ textOf f
 unfolding textByRows textOf nodeRows dirLine
 listing-text w f W e = rw (e, lines-tree f W)

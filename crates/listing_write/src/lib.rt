@@ -3,11 +3,13 @@ ghost use mathlib.Core.Path.{_≡_};
 ghost use Prim.Native.Nat.{_+_, _-_, _*_, _≤_, _<_, _^_};
 ghost use lib.ListN.{length, drop, getD};
 ghost use Rattle.row.specs.Table.{rowAt, rows, content};
-ghost use Rattle.rules.specs.declared.Checked.the-variants.{Fine};
-ghost use Rattle.rules.specs.Rules.{checked};
+ghost use Rattle.row.specs.Tree.{treeOf};
+ghost use Rattle.tree.specs.declared.Profile.{Profile};
+ghost use Rattle.rules.specs.Keyed.{Passes};
+ghost use Rattle.listing.specs.Writing.{textOf};
 ghost use Rattle.spell.specs.Puts.{Puts};
 ghost use Rattle.listing_write.specs.Rows.{contentText, lineOf, dots, opened, linesFrom, textByRows};
-ghost use Rattle.listing_write.specs.Contract.{fits, WriteContract};
+ghost use Rattle.listing_write.specs.Contract.{fits, textDue, Written, WriteContract};
 
 // A word of 32 bits as one of 64.
 fn wide(x: u32) -> u64
@@ -115,8 +117,8 @@ fn has_room(n: usize, room: usize) -> bool
 
 // Writes a table that keeps the rules: number 3, or the bytes written. An empty part tells the text's length first.
 fn write_fine(table: &[u32], text: &mut [u8]) -> rules::Answer
-    requires { ⌜ checked (now table) ≡ Fine ⌝ }
-    ensures { λ r. ⌜ WriteContract (now (table .entry)) (now (text .entry)) r (now (text .exit)) ⌝ }
+    requires { ⌜ ((p : Profile) × Passes p (now table)) ⌝ }
+    ensures { λ r. ⌜ Written (textDue (textOf (treeOf (now (table .entry)))) (length (now (text .entry)))) (textOf (treeOf (now (table .entry)))) (now (text .entry)) r (now (text .exit)) ⌝ }
 {
     let n = put_listing(&mut text[..0], table);
     if has_room(n, text.len()) {
@@ -130,14 +132,17 @@ fn write_fine(table: &[u32], text: &mut [u8]) -> rules::Answer
     }
 }
 
-// Writes a table's listing into the lent bytes: numbers 1 and 2, then 3, all with side 1; the bytes written.
-pub fn write(table: &[u32], text: &mut [u8]) -> rules::Answer
-    ensures { λ r. ⌜ WriteContract (now (table .entry)) (now (text .entry)) r (now (text .exit)) ⌝ }
+// Writes a table's listing into the lent bytes: numbers 1, 2 and 16, then 3, all with side 1; the bytes written.
+pub fn write(profile: tree::Profile, table: &[u32], text: &mut [u8]) -> rules::Answer
+    ensures { λ r. ⌜ WriteContract profile (now (table .entry)) (now (text .entry)) r (now (text .exit)) ⌝ }
 {
-    let found = rules::check(table);
-    match found {
-        rules::Checked::Fine => write_fine(table, text),
-        rules::Checked::BadLength => rules::refusal(found, 1),
-        rules::Checked::BadRow(_) => rules::refusal(found, 1),
+    let due = rules::check_table(profile, table);
+    match due {
+        rules::Answer::Accepted { place: _ } => write_fine(table, text),
+        rules::Answer::Refused {
+            number: _,
+            side: _,
+            place: _,
+        } => due,
     }
 }

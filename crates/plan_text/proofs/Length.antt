@@ -1,22 +1,24 @@
 -- How long a list's text can be: the bytes of a line, and the lines of a run.
 use mathlib.Core.Path.{_≡_, refl}
-use mathlib.Core.List.{List, [], _∷_, _++_}
+use mathlib.Core.List.{List, [], _∷_, _++_, map}
 use mathlib.Core.Bool.{Bool, true, false, cond}
 use mathlib.Core.Logic.{_⊎_, inl, inr}
 use native.Mathlib.Omega.{arith}
 use lib.Dec.{eqb}
 use lib.ListN.{length, length-append}
-use Prim.Native.Nat.{ℕ, zero, suc, _+_, _*_, _/_, _%_, _≤_}
-use Rattle.tree.specs.Name.{Name}
-use Rattle.tree.specs.Forest.{TreePath, Forest, Forest.end, Forest.leaf, Forest.dir, Node, Node.absent, Node.file, Node.folder, Present, at, find, size}
-use Rattle.tree.specs.Rules.{NameRule, ContentRule, Within, WellFormed, bytes}
-use Rattle.tree.proofs.Rules.{within-find, length-bytes, WithinNode}
-use Rattle.tree.proofs.Forest.{at-absent}
-use Rattle.settle.specs.Decision.{Decision.clash}
-use Rattle.settle.specs.Results.{Line.line, Lines, outcome}
+use Prim.Native.Nat.{ℕ, zero, suc, _+_, _*_, _/_, _%_, _≤_, Ordering, Ordering·lt, Ordering·eq, Ordering·gt}
+use Rattle.tree.specs.Name.{Name, cmp, ifSame}
+use Rattle.tree.specs.Forest.{TreePath, Forest, Forest.end, Forest.leaf, Forest.dir, Node, Node.absent, Node.file, Node.folder, Present, at, size}
+use Rattle.tree.specs.Rules.{NameRule, ContentRule, Within, bytes}
+use Rattle.tree.specs.declared.Profile.{Profile}
+use Rattle.tree.specs.Key.{key, fold, FormedIn, entry, spelling}
+use Rattle.tree.proofs.Rules.{length-bytes, WithinNode}
+use Rattle.tree.proofs.Folds.{reach, reach-absent, size-fold}
+use Rattle.settle.specs.Results.{Line.line, Lines}
+use Rattle.settle.specs.Spelled.{outcomeIn}
 use Rattle.stands.proofs.Forest.{ruled-within}
-use Rattle.stands.proofs.Path.{ruled-find}
-use Rattle.route.proofs.Path.{present-above}
+use Rattle.route.specs.Route.{spelledIn}
+use Rattle.route.proofs.Path.{present-reach, reach-above, ruled-entry}
 use Rattle.plan.specs.Items.{kind}
 use Rattle.plan.proofs.Bound.{lines-bound}
 use Rattle.tally.specs.declared.Tally.{Tally}
@@ -26,6 +28,7 @@ use Rattle.listing.specs.Writing.{asItIs, spellByte, spell, nameText, decimal}
 use Rattle.listing.proofs.Digits.{decimal-length}
 use Rattle.plan_text.specs.Text.{mark, namesText, pathText, marked, lineText, linesText, countsText, planText}
 use Rattle.plan_text.specs.Sides.{Sided}
+use Rattle.plan_text.specs.Spelled.{spelledBy, spelledLine, runText}
 use Rattle.plan_text.proofs.Sides.{listed-sided}
 
 spell-length : (bs : List ℕ) → length (spell bs) ≤ 4 * length bs
@@ -44,21 +47,38 @@ spell-length (b ∷ bs) = go (eqb b 0) (asItIs b) (spell-length bs)
 name-length : (n : Name) → NameRule n → length (nameText n) ≤ 128
 name-length n N = omega (arith, spell-length (bytes n), length-bytes n, N .eight)
 
--- a path to something in a forest of at most k levels
-names-length : (p : TreePath) (k : ℕ) (x : Node) → WithinNode NameRule ContentRule k x → Present (at x p) → length (namesText p) ≤ 129 * k
-unfolding namesText at find Within
-names-length [] k x w h = omega arith
-names-length (n ∷ p) k absent w h = absurd (rw (at-absent p) at h)
-names-length (n ∷ p) k (file c) w h = absurd (rw (at-absent p) at h)
-names-length (n ∷ p) zero (folder end) w h = absurd (rw (at-absent p) at h)
-names-length (n ∷ p) zero (folder (leaf m c s)) w h = absurd w
-names-length (n ∷ p) zero (folder (dir m j s)) w h = absurd w
-names-length (n ∷ p) (suc k) (folder f) w h =
+-- an entry that is there, in a forest of at most k levels
+within-entry : (p : Profile) (k : ℕ) (n : Name) (f : Forest) → Within NameRule ContentRule (suc k) f → WithinNode NameRule ContentRule k (entry p n f)
+unfolding Within entry
+within-entry p k n end w = tt
+within-entry p k n (leaf m c s) w = go (cmp n (key p m)) (within-entry p k n s (w .2))
+  where
+    go : (o : Ordering) → WithinNode NameRule ContentRule k (entry p n s) → WithinNode NameRule ContentRule k (ifSame o (file c) (entry p n s))
+    go Ordering·lt ih = ih
+    go Ordering·eq ih = w .1
+    go Ordering·gt ih = ih
+within-entry p k n (dir m j s) w = go (cmp n (key p m)) (within-entry p k n s (w .2))
+  where
+    go : (o : Ordering) → WithinNode NameRule ContentRule k (entry p n s) → WithinNode NameRule ContentRule k (ifSame o (folder j) (entry p n s))
+    go Ordering·lt ih = ih
+    go Ordering·eq ih = w .1
+    go Ordering·gt ih = ih
+
+-- a path of keys to something in a forest of at most k levels, as the forest spells it
+names-length : (p : Profile) (q : TreePath) (k : ℕ) (x : Node) → WithinNode NameRule ContentRule k x → Present (reach p x q) → length (namesText (spelledIn p x q)) ≤ 129 * k
+unfolding namesText reach spelledIn entry Within
+names-length p [] k x w h = omega arith
+names-length p (n ∷ q) k absent w h = absurd (rw (reach-absent p q) at h)
+names-length p (n ∷ q) k (file c) w h = absurd (rw (reach-absent p q) at h)
+names-length p (n ∷ q) zero (folder end) w h = absurd (rw (reach-absent p q) at h)
+names-length p (n ∷ q) zero (folder (leaf m c s)) w h = absurd w
+names-length p (n ∷ q) zero (folder (dir m j s)) w h = absurd w
+names-length p (n ∷ q) (suc k) (folder f) w h =
     omega (
       arith,
-      length-append (nameText n) (namesText p),
-      name-length n (ruled-find n f (ruled-within (suc k) f w) (present-above p (find n f) h) .0),
-      names-length p k (find n f) (within-find NameRule ContentRule k n f w) h,
+      length-append (nameText (spelling p n f n)) (namesText (spelledIn p (entry p n f) q)),
+      name-length (spelling p n f n) (ruled-entry p n f (ruled-within (suc k) f w) (reach-above p q (entry p n f) h) .0),
+      names-length p q k (entry p n f) (within-entry p k n f w) h,
     )
 
 mark-length : (k : ℕ) → length (mark k) ≡ 1
@@ -79,25 +99,49 @@ unfolding countsText
 counts-length t =
     simp length-append (omega (arith, decimal-length 20 (t .left) [] .0, decimal-length 20 (t .right) [] .0, decimal-length 20 (t .clash) [] .0))
 
-module _ (l r : Forest) (L : WellFormed l) (R : WellFormed r) where
-  path-length : (p : TreePath) → Present (at (folder l) p) ⊎ Present (at (folder r) p) → length (pathText p) ≤ 2065
+module _ (p : Profile) (l r : Forest) (L : Within NameRule ContentRule 16 l) (R : Within NameRule ContentRule 16 r) where
+  spelled-length : (f : Forest) → Within NameRule ContentRule 16 f → (q : TreePath) → Present (at (folder (fold p f)) q) → length (pathText (spelledIn p (folder f) q)) ≤ 2065
   unfolding pathText
-  path-length p (inl h) = omega (arith, names-length p 16 (folder l) (L .within) h)
-  path-length p (inr h) = omega (arith, names-length p 16 (folder r) (R .within) h)
+  spelled-length f F q h = omega (arith, names-length p q 16 (folder f) F (present-reach p f q h))
 
-  lines-length : (xs : Lines) → Sided l r xs → length (linesText xs) ≤ 2068 * length xs
+  path-length : (q : TreePath) → Present (at (folder (fold p l)) q) ⊎ Present (at (folder (fold p r)) q)
+      → length (pathText (spelledBy (at (folder (fold p l)) q) (spelledIn p (folder l) q) (spelledIn p (folder r) q))) ≤ 2065
+  path-length q s = go (at (folder (fold p l)) q) refl s
+    where
+      go : (x : Node) → at (folder (fold p l)) q ≡ x → Present x ⊎ Present (at (folder (fold p r)) q) → length (pathText (spelledBy x (spelledIn p (folder l) q) (spelledIn p (folder r) q))) ≤ 2065
+      go absent e (inl h) = absurd h
+      go absent e (inr h) = spelled-length r R q h
+      go (file c) e s = spelled-length l L q (rw e tt)
+      go (folder k) e s = spelled-length l L q (rw e tt)
+
+  lines-length : (xs : Lines) → Sided (fold p l) (fold p r) xs → length (linesText (map (spelledLine p l r) xs)) ≤ 2068 * length xs
   unfolding linesText Sided
   lines-length [] s = omega arith
-  lines-length (line p d ∷ xs) s =
-      omega (arith, length-append (lineText (line p d)) (linesText xs), marked-length (kind d) (pathText p), path-length p (s .0), lines-length xs (s .1))
+  lines-length (line q d ∷ xs) s =
+      omega (
+        arith,
+        length-append (lineText (spelledLine p l r (line q d))) (linesText (map (spelledLine p l r) xs)),
+        marked-length (kind d) (pathText (spelledBy (at (folder (fold p l)) q) (spelledIn p (folder l) q) (spelledIn p (folder r) q))),
+        path-length q (s .0),
+        lines-length xs (s .1),
+      )
 
   -- at most 2,068 bytes a line, and 65 for the counts
-  pub text-length : (xs : Lines) → Sided l r xs → length (planText xs) ≤ 2068 * length xs + 65
+  text-length : (xs : Lines) → Sided (fold p l) (fold p r) xs → length (planText (map (spelledLine p l r) xs)) ≤ 2068 * length xs + 65
   unfolding planText
-  text-length xs s = omega (arith, length-append (linesText xs) (countsText (tallyOf xs)), lines-length xs s, counts-length (tallyOf xs))
+  text-length xs s =
+      let ys = map (spelledLine p l r) xs in
+      omega (arith, length-append (linesText ys) (countsText (tallyOf ys)), lines-length xs s, counts-length (tallyOf ys))
 
 -- the text of a run
-pub run-length : (o l r : Forest) → WellFormed o → WellFormed l → WellFormed r
-    → length (planText (outcome o l r .lines)) ≤ 2068 * (size o + size l + size r) + 65
-run-length o l r O L R =
-    omega (arith, text-length l r L R (outcome o l r .lines) (listed-sided o l r), lines-bound o l r (O .sorted) (L .sorted) (R .sorted))
+pub run-length : (p : Profile) (o l r : Forest) → FormedIn p o → FormedIn p l → FormedIn p r → length (runText p o l r) ≤ 2068 * (size o + size l + size r) + 65
+unfolding runText
+run-length p o l r O L R =
+    omega (
+      arith,
+      text-length p l r (L .within) (R .within) (outcomeIn p o l r .lines) (listed-sided (fold p o) (fold p l) (fold p r)),
+      lines-bound (fold p o) (fold p l) (fold p r) (O .sorted) (L .sorted) (R .sorted),
+      size-fold p o,
+      size-fold p l,
+      size-fold p r,
+    )

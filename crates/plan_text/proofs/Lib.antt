@@ -5,4 +5,5 @@ pub mod Words
 pub mod Cases
 pub mod Sides
 pub mod Lines
+pub mod Exact
 pub mod Length

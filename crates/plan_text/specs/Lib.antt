@@ -2,4 +2,5 @@
 pub mod Text
 pub mod Words
 pub mod Sides
+pub mod Spelled
 pub mod Cases

@@ -8,6 +8,7 @@ use lib.Seq.{take-at}
 use Prim.Native.Nat.{ℕ, suc, _*_, _≤_, _<_}
 use borrow.Author.Tests.{le-leb, lt-leb}
 use Rattle.tree.specs.Forest.{Forest, size}
+use Rattle.tree.specs.declared.Profile.{Profile}
 use Rattle.row.specs.Buffer.{over}
 use Rattle.row.specs.Tree.{table, treeOf}
 use Rattle.row.proofs.Tree.{length-table, tree-table}
@@ -18,39 +19,40 @@ use Rattle.listing.specs.Bytes.{text}
 use Rattle.listing.specs.Reading.{Outcome, Outcome.refused, Outcome.accepted, reading}
 use Rattle.listing.proofs.Accepted.{accepted-fits}
 use Rattle.reader.specs.State.{zeroed}
+use Rattle.plan_text.specs.Spelled.{runText}
 use Rattle.listing_read.specs.Contract.{ReadContract, tableAfter}
-use Rattle.printout.specs.Printed.{fileRead, planOf, printed, refusedText}
+use Rattle.printout.specs.Printed.{fileRead, printed, refusedText}
 use Rattle.printout.specs.Tables.{IsTable, Left, Loaded}
 
-pub too-long : (t after : List ℕ) → 16384 < length t → Loaded (fileRead t) (Refused 6 0 0) after
+pub too-long : (p : Profile) (t after : List ℕ) → 16384 < length t → Loaded p (fileRead p t) (Refused 6 0 0) after
 unfolding fileRead
-too-long t after h =
-    let e : fileRead t ≡ refused 6 0 = rw (lt-leb (length t) 16384 h) in
+too-long p t after h =
+    let e : fileRead p t ≡ refused 6 0 = rw (lt-leb (length t) 16384 h) in
     record { says = rw e (record { number-due = refl; side-due = refl; place-due = refl; accepted = refl }); kind = rw e; left = rw e tt }
 
-pub as-read : (t b : List ℕ) (a : Answer) (after : List ℕ) → length t ≤ 16384 → length b ≡ 2560 → ReadContract t b a after → Loaded (fileRead t) a after
+pub as-read : (p : Profile) (t b : List ℕ) (a : Answer) (after : List ℕ) → length t ≤ 16384 → length b ≡ 2560 → ReadContract p t b a after → Loaded p (fileRead p t) a after
 unfolding fileRead over
-as-read t b a after h l c =
-    let e : fileRead t ≡ reading t 2560 = rw (le-leb (length t) 16384 h) in
-    record { says = rw (e, ← l) (c .says); kind = rw (e, ← l) (c .kind); left = rw e (go (reading t 2560) refl (rw l at (c .table))) }
+as-read p t b a after h l c =
+    let e : fileRead p t ≡ reading p t 2560 = rw (le-leb (length t) 16384 h) in
+    record { says = rw (e, ← l) (c .says); kind = rw (e, ← l) (c .kind); left = rw e (go (reading p t 2560) refl (rw l at (c .table))) }
   where
-    go : (o : Outcome) → reading t 2560 ≡ o → after ≡ tableAfter o 2560 → Left o after
+    go : (o : Outcome) → reading p t 2560 ≡ o → after ≡ tableAfter o 2560 → Left p o after
     go (refused n place) e w = tt
     go (accepted f) e w =
-        let fit = accepted-fits t 2560 f e in
-        (fit .good, fit .room, ap (take (20 * suc (size f))) w ∙ take-at (table f) (drop (length (table f)) (zeroed 2560)) (20 * suc (size f)) (length-table f (fit .good)))
+        let fit = accepted-fits p t 2560 f e in
+        (fit .good, fit .room, ap (take (20 * suc (size f))) w ∙ take-at (table f) (drop (length (table f)) (zeroed 2560)) (20 * suc (size f)) (length-table f (fit .good .within)))
 
 -- a file that was taken: the tree, and its table among the lent words
-pub record Taken (o : Outcome) (w : List ℕ) (rows : ℕ) : Type 0 where
+pub record Taken (p : Profile) (o : Outcome) (w : List ℕ) (rows : ℕ) : Type 0 where
   pub tree : Forest
   pub read : o ≡ accepted tree
   pub few : rows ≤ 128
-  pub table : IsTable (take (20 * rows) w)
+  pub table : IsTable p (take (20 * rows) w)
   pub same : treeOf (take (20 * rows) w) ≡ tree
 
-pub taken : (o : Outcome) (a : Answer) (w : List ℕ) (rows : ℕ) → Loaded o a w → a ≡ Accepted rows → Taken o w rows
-taken (refused n place) a w rows l e = absurd (false≢true (sym (l .kind) ∙ ap isAccepted e))
-taken (accepted f) a w rows l e =
+pub taken : (p : Profile) (o : Outcome) (a : Answer) (w : List ℕ) (rows : ℕ) → Loaded p o a w → a ≡ Accepted rows → Taken p o w rows
+taken p (refused n place) a w rows l e = absurd (false≢true (sym (l .kind) ∙ ap isAccepted e))
+taken p (accepted f) a w rows l e =
     let r : suc (size f) ≡ rows = sym (l .says .place-due) ∙ ap placeOf e in
     let t = rw r at (l .left .2) in
     let q = l .left .1 in
@@ -59,36 +61,36 @@ taken (accepted f) a w rows l e =
       read = refl;
       few = omega arith;
       table = record { tree = f; good = l .left .0; few = q; words = t };
-      same = rw t (tree-table f (l .left .0));
+      same = rw t (tree-table f (l .left .0 .within));
     }
 
-pub not-taken : (o : Outcome) (a : Answer) (w : List ℕ) (n s place : ℕ) → Loaded o a w → a ≡ Refused n s place → o ≡ refused n place
-not-taken (refused m line) a w n s place l e =
+pub not-taken : (p : Profile) (o : Outcome) (a : Answer) (w : List ℕ) (n s place : ℕ) → Loaded p o a w → a ≡ Refused n s place → o ≡ refused n place
+not-taken p (refused m line) a w n s place l e =
     let x : n ≡ m = sym (ap numberOf e) ∙ l .says .number-due in
     let y : place ≡ line = sym (ap placeOf e) ∙ l .says .place-due in
     cc
-not-taken (accepted f) a w n s place l e = absurd (false≢true (sym (ap isAccepted e) ∙ l .kind))
+not-taken p (accepted f) a w n s place l e = absurd (false≢true (sym (ap isAccepted e) ∙ l .kind))
 
 -- its rows are a part of the 2,560 words
-pub taken-part : {o : Outcome} {w : List ℕ} {rows n : ℕ} → Taken o w rows → length w ≡ n → n ≡ 2560 → (20 * rows ≤ length w) × (20 * rows ≡ length (take (20 * rows) w))
+pub taken-part : {p : Profile} {o : Outcome} {w : List ℕ} {rows n : ℕ} → Taken p o w rows → length w ≡ n → n ≡ 2560 → (20 * rows ≤ length w) × (20 * rows ≡ length (take (20 * rows) w))
 taken-part t l e = let h = t .few in (omega arith, simp length-take (omega arith))
 
 -- the printout, by how far the files are taken
-module _ (archive left right : List ℕ) where
-  pub no-archive : (n place : ℕ) → fileRead archive ≡ refused n place → printed archive left right ≡ refusedText (text "archive") n place
+module _ (p : Profile) (archive left right : List ℕ) where
+  pub no-archive : (n place : ℕ) → fileRead p archive ≡ refused n place → printed p archive left right ≡ refusedText (text "archive") n place
   unfolding printed
   no-archive n place e = rw e
 
-  module _ (o : Forest) (a : fileRead archive ≡ accepted o) where
-    pub no-left : (n place : ℕ) → fileRead left ≡ refused n place → printed archive left right ≡ refusedText (text "left") n place
+  module _ (o : Forest) (a : fileRead p archive ≡ accepted o) where
+    pub no-left : (n place : ℕ) → fileRead p left ≡ refused n place → printed p archive left right ≡ refusedText (text "left") n place
     unfolding printed
     no-left n place e = rw (a, e)
 
-    module _ (l : Forest) (b : fileRead left ≡ accepted l) where
-      pub no-right : (n place : ℕ) → fileRead right ≡ refused n place → printed archive left right ≡ refusedText (text "right") n place
+    module _ (l : Forest) (b : fileRead p left ≡ accepted l) where
+      pub no-right : (n place : ℕ) → fileRead p right ≡ refused n place → printed p archive left right ≡ refusedText (text "right") n place
       unfolding printed
       no-right n place e = rw (a, b, e)
 
-      pub all-read : (r : Forest) → fileRead right ≡ accepted r → printed archive left right ≡ planOf o l r
+      pub all-read : (r : Forest) → fileRead p right ≡ accepted r → printed p archive left right ≡ runText p o l r
       unfolding printed
       all-read r e = rw (a, b, e)

@@ -1,10 +1,11 @@
--- A file's tree as a table of at most 128 rows.
+-- A file's tree in a profile as a table of at most 128 rows.
 use mathlib.Core.Path.{_≡_}
 use mathlib.Core.List.{List}
 use lib.ListN.{take}
 use Prim.Native.Nat.{ℕ, suc, _*_, _≤_}
 use Rattle.tree.specs.Forest.{Forest, size}
-use Rattle.tree.specs.Rules.{WellFormed}
+use Rattle.tree.specs.declared.Profile.{Profile}
+use Rattle.tree.specs.Key.{FormedIn}
 use Rattle.row.specs.Tree.{table}
 use Rattle.rules.specs.declared.Answer.{Answer}
 use Rattle.rules.specs.Answer.{isAccepted}
@@ -12,19 +13,19 @@ use Rattle.listing.specs.Reading.{Outcome, Outcome.accepted, Outcome.refused}
 use Rattle.listing_read.specs.Contract.{Answers, isTaken}
 
 -- a tree of 128 rows or fewer, and its table
-pub record IsTable (w : List ℕ) : Type 0 where
+pub record IsTable (p : Profile) (w : List ℕ) : Type 0 where
   pub tree : Forest
-  pub good : WellFormed tree
+  pub good : FormedIn p tree
   pub few : suc (size tree) ≤ 128
   pub words : w ≡ table tree
 
 -- what a file's reading leaves in the lent words: the table of the tree that is accepted
-abbrev pub Left : Outcome → List ℕ → Type 0
-Left (refused n place) w = Unit {0}
-Left (accepted f) w = WellFormed f × (suc (size f) ≤ 128) × (take (20 * suc (size f)) w ≡ table f)
+abbrev pub Left : Profile → Outcome → List ℕ → Type 0
+Left p (refused n place) w = Unit {0}
+Left p (accepted f) w = FormedIn p f × (suc (size f) ≤ 128) × (take (20 * suc (size f)) w ≡ table f)
 
 -- its answer too
-pub record Loaded (o : Outcome) (answer : Answer) (after : List ℕ) : Type 0 where
+pub record Loaded (p : Profile) (o : Outcome) (answer : Answer) (after : List ℕ) : Type 0 where
   pub says : Answers answer o
   pub kind : isAccepted answer ≡ isTaken o
-  pub left : Left o after
+  pub left : Left p o after

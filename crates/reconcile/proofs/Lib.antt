@@ -2,4 +2,6 @@
 pub mod Accepted
 pub mod Planned
 pub mod Steps
+pub mod Turns
 pub mod OneOutcome
+pub mod Exact

@@ -2,9 +2,10 @@
 use mathlib.Core.Path.{_≡_, sym, _∙_}
 use mathlib.Core.List.{List}
 use Prim.Native.Nat.{ℕ}
+use Rattle.tree.specs.declared.Profile.{Profile}
 use Rattle.reconcile.specs.declared.Reconciled.{Reconciled}
 use Rattle.reconcile.specs.Run.{Lent, ReconcileContract}
 
-pub reconcile-one : (o l r : List ℕ) (before after after′ : Lent) (a b : Reconciled)
-    → ReconcileContract o l r before after a → ReconcileContract o l r before after′ b → (a ≡ b) × (after ≡ after′)
-reconcile-one o l r before after after′ a b h k = (h .answered ∙ sym (k .answered), h .left-in ∙ sym (k .left-in))
+pub reconcile-one : (p : Profile) (o l r : List ℕ) (before after after′ : Lent) (a b : Reconciled)
+    → ReconcileContract p o l r before after a → ReconcileContract p o l r before after′ b → (a ≡ b) × (after ≡ after′)
+reconcile-one p o l r before after after′ a b h k = (h .answered ∙ sym (k .answered), h .left-in ∙ sym (k .left-in))

@@ -8,14 +8,16 @@ use lib.ListN.{length, drop, length-append}
 use lib.Dec.{leb}
 use Prim.Native.Nat.{ℕ, zero, suc, _*_, _/_, _%_, _≤_}
 use borrow.Author.Tests.{leb-true}
+use Rattle.tree.specs.declared.Profile.{Profile}
+use Rattle.tree.specs.Key.{fold}
 use Rattle.row.specs.Buffer.{over}
+use Rattle.row.specs.Keyed.{keyed}
 use Rattle.row.specs.Tree.{treeOf}
 use Rattle.rules.specs.declared.Answer.{Answer}
 use Rattle.rules.specs.declared.Answer.the-variants.{Accepted, Refused}
 use Rattle.rules.specs.Answer.{isAccepted}
-use Rattle.rules.specs.declared.Checked.the-variants.{Fine}
-use Rattle.rules.specs.Refusal.{refusalOf}
-use Rattle.rules.specs.Rules.{checked}
+use Rattle.rules.specs.Refusal.{refusalOf, twinsDue}
+use Rattle.rules.specs.Keyed.{checkedIn, twins, Passes}
 use Rattle.rules.specs.Faults.{firstRefusal, unless, roomRule}
 use Rattle.plan.specs.Settle.{settled}
 use Rattle.plan.specs.Writes.{Fills}
@@ -27,11 +29,12 @@ use Rattle.results.specs.Decisions.{decisionOf, decisions, pieces}
 use Rattle.results.specs.Pieces.{newTree, pieceList}
 use Rattle.results.proofs.Pieces.{line-most}
 use Rattle.rules.proofs.Faults.{first-passed, first-both, refusal-fine, unless-true, room-parts}
+use Rattle.rules.proofs.Passing.{twins-fine}
 use Rattle.tally.proofs.Laws.{counts-list}
 use Rattle.reconcile.specs.declared.Reconciled.{Reconciled}
 use Rattle.reconcile.specs.declared.Counts.{Counts}
 use Rattle.reconcile.specs.Answer.{answerWith}
-use Rattle.reconcile.specs.Run.{given, Lent, lent, countsOf, tablesDue, roomsDue, roomDue, runDue, filled, runOf, ReconcileContract}
+use Rattle.reconcile.specs.Run.{given, Lent, lent, countsOf, twinsOf, tablesDue, roomsDue, roomDue, runDue, filled, runOf, ReconcileContract}
 use Rattle.reconcile.specs.Steps.{Words, plannedWords, plannedCounts, Spacious, Wrote, Settles}
 use Rattle.reconcile.proofs.Planned.{Sound, outcomeWords, planned-words, planned-counts, items-most, whole-rows, whole-lines}
 
@@ -63,90 +66,95 @@ lines-most zero p = omega arith
 lines-most (suc n) p = rw length-append (let h = line-most (decisionOf p) in let k = lines-most n (drop 4 p) in omega arith)
 
 -- what is known when the rooms are tried
-pub record Tried (o l r : List ℕ) (p e : List ℕ) (q : ℕ) (b : Lent) (c : Counts) (due : Answer) (a : Reconciled) : Type 0 where
-  pub o-sound : Sound o
-  pub l-sound : Sound l
-  pub r-sound : Sound r
-  pub planned : Fills p (settled o l r) e q
+pub record Tried (p : Profile) (o l r : List ℕ) (s e : List ℕ) (q : ℕ) (b : Lent) (c : Counts) (due : Answer) (a : Reconciled) : Type 0 where
+  pub o-sound : Sound p o
+  pub l-sound : Sound p l
+  pub r-sound : Sound p r
+  pub planned : Fills s (settled (keyed p o) (keyed p l) (keyed p r)) e q
   pub counted : c ≡ plannedCounts o l r (decisions (q / 4) e)
   pub due-is : due ≡ roomsDue c (length (b .archive)) (length (b .left)) (length (b .right)) (length (b .list))
   pub answer-is : a ≡ answerWith due c
 
-module _ {o l r p e : List ℕ} {q : ℕ} {b : Lent} {c : Counts} {due : Answer} {a : Reconciled} (T : Tried o l r p e q b c due a) where
-  counts : c ≡ countsOf (given o l r)
-  counts = T .counted ∙ planned-counts o l r (T .o-sound) (T .l-sound) (T .r-sound) p e q (T .planned)
+module _ {p : Profile} {o l r s e : List ℕ} {q : ℕ} {b : Lent} {c : Counts} {due : Answer} {a : Reconciled} (T : Tried p o l r s e q b c due a) where
+  counts : c ≡ countsOf (given p o l r)
+  counts = T .counted ∙ planned-counts p o l r (T .o-sound) (T .l-sound) (T .r-sound) s e q (T .planned)
 
-  words : plannedWords o l r (decisions (q / 4) e) ≡ outcomeWords o l r
-  words = planned-words o l r (T .o-sound) (T .l-sound) (T .r-sound) p e q (T .planned)
+  words : plannedWords o l r (decisions (q / 4) e) ≡ outcomeWords p o l r
+  words = planned-words p o l r (T .o-sound) (T .l-sound) (T .r-sound) s e q (T .planned)
 
-  due-at : due ≡ roomDue o l r b
+  due-at : due ≡ roomDue p o l r b
   due-at = T .due-is ∙ rw counts refl
 
-  answered : a ≡ answerWith (roomDue o l r b) (countsOf (given o l r))
+  answered : a ≡ answerWith (roomDue p o l r b) (countsOf (given p o l r))
   answered = T .answer-is ∙ rw (due-at, counts) refl
 
-  pub settles-refused : (n s k : ℕ) → due ≡ Refused n s k → Settles o l r b b a
-  settles-refused n s k h = record { answered = answered; left-in = rw (← due-at, h) refl }
+  pub settles-refused : (n m k : ℕ) → due ≡ Refused n m k → Settles p o l r b b a
+  settles-refused n m k h = record { answered = answered; left-in = rw (← due-at, h) refl }
 
   module _ (k : ℕ) (h : due ≡ Accepted k) where
     R : Rooms c (length (b .archive)) (length (b .left)) (length (b .right)) (length (b .list))
     R = rooms c _ _ _ _ (ap isAccepted (sym (T .due-is) ∙ h))
 
     whole : (t : Tree) → length (newTree t o l r (decisions (q / 4) e)) % 20 ≡ 0
-    whole = whole-rows o l r (T .o-sound) (T .l-sound) (T .r-sound) p e q (T .planned)
+    whole = whole-rows p o l r (T .o-sound) (T .l-sound) (T .r-sound) s e q (T .planned)
 
     pub spacious : Spacious (plannedWords o l r (decisions (q / 4) e)) (b .archive) (b .left) (b .right) (b .list)
     spacious = record {
       archive = omega (arith, R .archive, ap (λ (x : Counts). x .archive) (T .counted), whole Archive);
       left = omega (arith, R .left, ap (λ (x : Counts). x .left) (T .counted), whole Left);
       right = omega (arith, R .right, ap (λ (x : Counts). x .right) (T .counted), whole Right);
-      list = omega (arith, R .list, ap (λ (x : Counts). x .list) (T .counted), whole-lines o l r (T .o-sound) (T .l-sound) (T .r-sound) p e q (T .planned));
+      list = omega (arith, R .list, ap (λ (x : Counts). x .list) (T .counted), whole-lines p o l r (T .o-sound) (T .l-sound) (T .r-sound) s e q (T .planned));
     }
 
     -- the list's entries, within the words of its buffer
     pub entries : (x : List ℕ) → length x ≡ length (b .list) → (3 * c .list ≤ length x) × (c .list ≤ 12288)
-    entries x s =
-        let n = items-most o l r (T .o-sound) (T .l-sound) (T .r-sound) p e q (T .planned) in
+    entries x i =
+        let n = items-most p o l r (T .o-sound) (T .l-sound) (T .r-sound) s e q (T .planned) in
         (omega (arith, R .list), omega (arith, ap (λ (x : Counts). x .list) (T .counted), lines-most (q / 4) e))
 
     pub settles-accepted : (a′ l′ r′ i′ : List ℕ) (t : Tally) → Wrote (plannedWords o l r (decisions (q / 4) e)) (b .archive) (b .left) (b .right) (b .list) a′ l′ r′ i′
-        → t ≡ countedAll (c .list) i′ → Settles o l r b (lent a′ l′ r′ i′ t) a
-    settles-accepted a′ l′ r′ i′ t w s = record { answered = answered; left-in = rw (← due-at, h) (rw (a-is, l-is, r-is, t-is, i-is) refl) }
+        → t ≡ countedAll (c .list) i′ → Settles p o l r b (lent a′ l′ r′ i′ t) a
+    settles-accepted a′ l′ r′ i′ t w m = record { answered = answered; left-in = rw (← due-at, h) (rw (a-is, l-is, r-is, t-is, i-is) refl) }
       where
-        a-is : a′ ≡ filled o l r b .archive
+        a-is : a′ ≡ filled p o l r b .archive
         a-is = w .archive ∙ ap (λ (x : Words). over (b .archive) (x .archive)) words
 
-        l-is : l′ ≡ filled o l r b .left
+        l-is : l′ ≡ filled p o l r b .left
         l-is = w .left ∙ ap (λ (x : Words). over (b .left) (x .left)) words
 
-        r-is : r′ ≡ filled o l r b .right
+        r-is : r′ ≡ filled p o l r b .right
         r-is = w .right ∙ ap (λ (x : Words). over (b .right) (x .right)) words
 
-        i-is : i′ ≡ filled o l r b .list
+        i-is : i′ ≡ filled p o l r b .list
         i-is = w .list ∙ ap (λ (x : Words). over (b .list) (x .list)) words
 
-        t-is : t ≡ filled o l r b .tally
+        t-is : t ≡ filled p o l r b .tally
         t-is =
-            s ∙ ap (λ (x : ℕ). countedAll x i′) (ap (λ (x : Counts). x .list) counts)
-            ∙ ap (countedAll (countsOf (given o l r) .list)) i-is
-            ∙ counts-list (b .list) (treeOf l) (treeOf r) (given o l r .lines)
+            m ∙ ap (λ (x : ℕ). countedAll x i′) (ap (λ (x : Counts). x .list) counts)
+            ∙ ap (countedAll (countsOf (given p o l r) .list)) i-is
+            ∙ counts-list (b .list) (fold p (treeOf l)) (fold p (treeOf r)) (given p o l r .lines)
 
 -- tables that are accepted keep the rules
-pub tables-passed : (o l r : List ℕ) (due : Answer) (k : ℕ) → due ≡ tablesDue o l r → due ≡ Accepted k
-    → (checked o ≡ Fine) × (checked l ≡ Fine) × (checked r ≡ Fine)
-unfolding tablesDue
-tables-passed o l r due k e h =
-    let a = first-passed (refusalOf (checked o) 1) _ (refusalOf (checked r) 3) (ap isAccepted (sym e ∙ h)) in
-    let c = first-both (refusalOf (checked l) 2) (refusalOf (checked r) 3) (a .1) in
-    (refusal-fine (checked o) 1 (a .0), refusal-fine (checked l) 2 (c .0), refusal-fine (checked r) 3 (c .1))
+pub tables-passed : (p : Profile) (o l r : List ℕ) → isAccepted (tablesDue p o l r) ≡ true → Passes p o × Passes p l × Passes p r
+unfolding tablesDue twinsOf
+tables-passed p o l r h =
+    let a = first-passed (refusalOf (checkedIn p o) 1) _ (twinsOf p o l r) h in
+    let b = first-passed (refusalOf (checkedIn p l) 2) _ (twinsOf p o l r) (a .1) in
+    let c = first-both (refusalOf (checkedIn p r) 3) (twinsOf p o l r) (b .1) in
+    let d = first-passed (twinsDue (twins p o) 1) _ (twinsDue (twins p r) 3) (c .1) in
+    let e = first-both (twinsDue (twins p l) 2) (twinsDue (twins p r) 3) (d .1) in (
+      record { checked-fine = refusal-fine (checkedIn p o) 1 (a .0); no-twins = twins-fine p o 1 (d .0) },
+      record { checked-fine = refusal-fine (checkedIn p l) 2 (b .0); no-twins = twins-fine p l 2 (e .0) },
+      record { checked-fine = refusal-fine (checkedIn p r) 3 (c .0); no-twins = twins-fine p r 3 (e .1) },
+    )
 
-module _ (o l r : List ℕ) (b : Lent) (due : Answer) (e : due ≡ tablesDue o l r) where
+module _ (p : Profile) (o l r : List ℕ) (b : Lent) (due : Answer) (e : due ≡ tablesDue p o l r) where
   -- the rooms decide
-  pub run-settles : (k : ℕ) → due ≡ Accepted k → {after : Lent} {a : Reconciled} → Settles o l r b after a → ReconcileContract o l r b after a
+  pub run-settles : (k : ℕ) → due ≡ Accepted k → {after : Lent} {a : Reconciled} → Settles p o l r b after a → ReconcileContract p o l r b after a
   unfolding runDue runOf firstRefusal
-  run-settles k h S = let z : tablesDue o l r ≡ Accepted k = sym e ∙ h in record { answered = rw z (S .answered); left-in = rw z (S .left-in) }
+  run-settles k h S = let z : tablesDue p o l r ≡ Accepted k = sym e ∙ h in record { answered = rw z (S .answered); left-in = rw z (S .left-in) }
 
   -- a refusal of a table has no counts, and leaves all as it was
-  pub run-refused : (n s k : ℕ) → due ≡ Refused n s k → {a : Reconciled} (c : Counts) → a ≡ answerWith due c → ReconcileContract o l r b b a
+  pub run-refused : (n s k : ℕ) → due ≡ Refused n s k → {a : Reconciled} (c : Counts) → a ≡ answerWith due c → ReconcileContract p o l r b b a
   unfolding runDue runOf firstRefusal
-  run-refused n s k h c x = let z : tablesDue o l r ≡ Refused n s k = sym e ∙ h in record { answered = rw z (rw h at x); left-in = rw z refl }
+  run-refused n s k h c x = let z : tablesDue p o l r ≡ Refused n s k = sym e ∙ h in record { answered = rw z (rw h at x); left-in = rw z refl }

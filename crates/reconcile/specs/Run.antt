@@ -1,4 +1,5 @@
--- A reconciliation of three tables with the buffers lent to it: the answer that is due, each buffer and the tally afterwards.
+-- A reconciliation of three tables, in a profile, with the buffers lent to it: the answer that is due, each buffer and the
+-- tally afterwards.
 use mathlib.Core.Path.{_≡_}
 use mathlib.Core.List.{List, [], _∷_}
 use mathlib.Core.Bool.{cond}
@@ -6,13 +7,16 @@ use lib.Dec.{leb}
 use lib.ListN.{length}
 use Prim.Native.Nat.{ℕ, suc, _/_}
 use Rattle.tree.specs.Forest.{size}
-use Rattle.settle.specs.Results.{Outcome, outcome}
+use Rattle.tree.specs.declared.Profile.{Profile}
+use Rattle.tree.specs.Key.{fold}
+use Rattle.settle.specs.Results.{Outcome}
+use Rattle.settle.specs.Spelled.{outcomeIn}
 use Rattle.row.specs.Buffer.{over}
 use Rattle.row.specs.Tree.{table, treeOf}
 use Rattle.rules.specs.declared.Answer.{Answer}
 use Rattle.rules.specs.Answer.{isAccepted}
-use Rattle.rules.specs.Refusal.{refusalOf}
-use Rattle.rules.specs.Rules.{checked}
+use Rattle.rules.specs.Keyed.{checkedIn, twins}
+use Rattle.rules.specs.Refusal.{refusalOf, twinsDue}
 use Rattle.rules.specs.Faults.{firstRefusal, unless, roomRule}
 use Rattle.plan.specs.Items.{listWords}
 use Rattle.tally.specs.declared.Tally.{Tally}
@@ -22,8 +26,8 @@ use Rattle.reconcile.specs.declared.Counts.{Counts}
 use Rattle.reconcile.specs.Answer.{answerWith}
 
 -- what the three trees give
-abbrev pub given : List ℕ → List ℕ → List ℕ → Outcome
-given o l r = outcome (treeOf o) (treeOf l) (treeOf r)
+abbrev pub given : Profile → List ℕ → List ℕ → List ℕ → Outcome
+given p o l r = outcomeIn p (treeOf o) (treeOf l) (treeOf r)
 
 -- the buffers that are lent, and the tally
 pub record Lent : Type 0 where
@@ -40,9 +44,19 @@ lent a l r i t = record { archive = a; left = l; right = r; list = i; tally = t 
 abbrev pub countsOf : Outcome → Counts
 countsOf u = record { archive = suc (size (u .archive)); left = suc (size (u .left)); right = suc (size (u .right)); list = length (u .lines) }
 
--- the tables' faults: archive, left, right
-unfoldable pub tablesDue : List ℕ → List ℕ → List ℕ → Answer
-tablesDue o l r = firstRefusal (refusalOf (checked o) 1 ∷ refusalOf (checked l) 2 ∷ []) (refusalOf (checked r) 3)
+-- number 16 of archive, left and right
+unfoldable pub twinsOf : Profile → List ℕ → List ℕ → List ℕ → Answer
+twinsOf p o l r = firstRefusal (twinsDue (twins p o) 1 ∷ twinsDue (twins p l) 2 ∷ []) (twinsDue (twins p r) 3)
+
+-- the tables' faults: 1 and 2 of archive, left and right, then 16 of each
+unfoldable pub tablesDue : Profile → List ℕ → List ℕ → List ℕ → Answer
+tablesDue p o l r =
+    firstRefusal
+    (refusalOf (checkedIn p o) 1 ∷
+    refusalOf (checkedIn p l) 2 ∷
+    refusalOf (checkedIn p r) 3 ∷
+    [])
+    (twinsOf p o l r)
 
 -- the rooms' faults: archive, left, right, list; the numbers are the words lent
 unfoldable pub roomsDue : Counts → ℕ → ℕ → ℕ → ℕ → Answer
@@ -55,21 +69,22 @@ roomsDue c archive left right list =
     (unless (leb (c .list) (list / 3)) 3 4)
 
 -- what the rooms of a run are due
-abbrev pub roomDue : List ℕ → List ℕ → List ℕ → Lent → Answer
-roomDue o l r b = roomsDue (countsOf (given o l r)) (length (b .archive)) (length (b .left)) (length (b .right)) (length (b .list))
+abbrev pub roomDue : Profile → List ℕ → List ℕ → List ℕ → Lent → Answer
+roomDue p o l r b = roomsDue (countsOf (given p o l r)) (length (b .archive)) (length (b .left)) (length (b .right)) (length (b .list))
 
 -- the tables' faults come first
-unfoldable pub runDue : List ℕ → List ℕ → List ℕ → Lent → Answer
-runDue o l r b = firstRefusal (tablesDue o l r ∷ []) (roomDue o l r b)
+unfoldable pub runDue : Profile → List ℕ → List ℕ → List ℕ → Lent → Answer
+runDue p o l r b = firstRefusal (tablesDue p o l r ∷ []) (roomDue p o l r b)
 
--- what an accepted run leaves: each result at the start of its buffer, and the tally of the list
-abbrev pub filled : List ℕ → List ℕ → List ℕ → Lent → Lent
-filled o l r b = record {
-  archive = over (b .archive) (table (given o l r .archive));
-  left = over (b .left) (table (given o l r .left));
-  right = over (b .right) (table (given o l r .right));
-  list = over (b .list) (listWords (treeOf l) (treeOf r) (given o l r .lines));
-  tally = tallyOf (given o l r .lines);
+-- what an accepted run leaves: each result at the start of its buffer, the list with the rows of its paths, which are keys,
+-- and the tally of the list
+abbrev pub filled : Profile → List ℕ → List ℕ → List ℕ → Lent → Lent
+filled p o l r b = record {
+  archive = over (b .archive) (table (given p o l r .archive));
+  left = over (b .left) (table (given p o l r .left));
+  right = over (b .right) (table (given p o l r .right));
+  list = over (b .list) (listWords (fold p (treeOf l)) (fold p (treeOf r)) (given p o l r .lines));
+  tally = tallyOf (given p o l r .lines);
 }
 
 -- what a run answers, and what it leaves
@@ -78,13 +93,13 @@ pub record RunOutcome : Type 0 where
   pub lent : Lent
 
 -- a refusal leaves every buffer and the tally as they were
-unfoldable pub runOf : List ℕ → List ℕ → List ℕ → Lent → RunOutcome
-runOf o l r b = record {
-  answer = answerWith (runDue o l r b) (countsOf (given o l r));
-  lent = cond (isAccepted (runDue o l r b)) (filled o l r b) b;
+unfoldable pub runOf : Profile → List ℕ → List ℕ → List ℕ → Lent → RunOutcome
+runOf p o l r b = record {
+  answer = answerWith (runDue p o l r b) (countsOf (given p o l r));
+  lent = cond (isAccepted (runDue p o l r b)) (filled p o l r b) b;
 }
 
 -- the contract of a reconciliation, for all inputs
-pub record ReconcileContract (o l r : List ℕ) (before after : Lent) (answer : Reconciled) : Type 0 where
-  pub answered : answer ≡ runOf o l r before .answer
-  pub left-in : after ≡ runOf o l r before .lent
+pub record ReconcileContract (p : Profile) (o l r : List ℕ) (before after : Lent) (answer : Reconciled) : Type 0 where
+  pub answered : answer ≡ runOf p o l r before .answer
+  pub left-in : after ≡ runOf p o l r before .lent

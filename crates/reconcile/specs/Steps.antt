@@ -3,10 +3,14 @@ use mathlib.Core.Path.{_≡_}
 use mathlib.Core.List.{List}
 use mathlib.Core.Bool.{cond}
 use lib.ListN.{length}
-use Prim.Native.Nat.{ℕ, _/_, _≤_}
+use Prim.Native.Nat.{ℕ, zero, suc, _/_, _≤_}
+use Rattle.tree.specs.declared.Profile.{Profile}
+use Rattle.tree.specs.declared.Profile.the-variants.{Folded}
 use Rattle.row.specs.Buffer.{over}
+use Rattle.row.specs.Keyed.{keyed}
 use Rattle.rules.specs.Answer.{isAccepted}
 use Rattle.cursor.specs.declared.Decision.{Decision}
+use Rattle.plan.specs.Settle.{settled}
 use Rattle.results.specs.declared.Tree.the-variants.{Archive, Left, Right}
 use Rattle.results.specs.Decisions.{pieces}
 use Rattle.results.specs.Pieces.{newTree, pieceList}
@@ -14,6 +18,12 @@ use Rattle.reconcile.specs.declared.Reconciled.{Reconciled}
 use Rattle.reconcile.specs.declared.Counts.{Counts}
 use Rattle.reconcile.specs.Answer.{answerWith}
 use Rattle.reconcile.specs.Run.{given, Lent, countsOf, roomDue, filled}
+
+-- the plan of three tables of which the first n are still to be keyed: the first is keyed and goes behind the others, so
+-- that after three turns all are keyed, and in their order
+unfoldable pub settledAfter : ℕ → List ℕ → List ℕ → List ℕ → List ℕ
+settledAfter zero o l r = settled o l r
+settledAfter (suc n) o l r = settledAfter n l r (keyed Folded o)
 
 -- the words of the new archive, left and right, and of the list
 pub record Words : Type 0 where
@@ -54,6 +64,6 @@ pub record Wrote (w : Words) (a l r i a′ l′ r′ i′ : List ℕ) : Type 0 w
   pub list : i′ ≡ over i (w .list)
 
 -- what a run of tables that keep the rules answers and leaves
-pub record Settles (o l r : List ℕ) (before after : Lent) (answer : Reconciled) : Type 0 where
-  pub answered : answer ≡ answerWith (roomDue o l r before) (countsOf (given o l r))
-  pub left-in : after ≡ cond (isAccepted (roomDue o l r before)) (filled o l r before) before
+pub record Settles (p : Profile) (o l r : List ℕ) (before after : Lent) (answer : Reconciled) : Type 0 where
+  pub answered : answer ≡ answerWith (roomDue p o l r before) (countsOf (given p o l r))
+  pub left-in : after ≡ cond (isAccepted (roomDue p o l r before)) (filled p o l r before) before

@@ -2,16 +2,18 @@
 use results::Tree;
 use rules::Answer;
 use tally::Tally;
+use tree::Profile;
 ghost use mathlib.Core.Path.{_≡_};
 ghost use Prim.Native.Nat.{_*_, _/_, _≤_};
 ghost use lib.ListN.{length};
-ghost use Rattle.rules.specs.declared.Checked.the-variants.{Fine};
-ghost use Rattle.rules.specs.Rules.{checked};
-ghost use Rattle.plan.specs.Settle.{Three};
+ghost use Rattle.row.specs.Keyed.{keyed};
+ghost use Rattle.rules.specs.Keyed.{Passes};
+ghost use Rattle.plan.specs.Settle.{Three, settled};
+ghost use Rattle.plan.specs.Writes.{Fills};
 ghost use Rattle.results.specs.Decisions.{decisions};
 ghost use Rattle.reconcile.specs.Answer.{answerWith};
-ghost use Rattle.reconcile.specs.Run.{tablesDue, roomsDue, lent, ReconcileContract};
-ghost use Rattle.reconcile.specs.Steps.{plannedCounts, plannedWords, Spacious, Wrote, Settles};
+ghost use Rattle.reconcile.specs.Run.{twinsOf, tablesDue, roomsDue, lent, ReconcileContract};
+ghost use Rattle.reconcile.specs.Steps.{settledAfter, plannedCounts, plannedWords, Spacious, Wrote, Settles};
 
 // What a reconciliation answers: number, side and place; accepted, the rows of the new archive, left and right, and the
 // list's entries.
@@ -39,14 +41,28 @@ pub struct Ran {
     pub tally: Tally,
 }
 
-// The tables' faults: archive, left, right, each for 1 and then 2.
-fn tables_due(o: &[u32], l: &[u32], r: &[u32]) -> Answer
-    ensures { λ a. ⌜ a ≡ tablesDue (now (o .entry)) (now (l .entry)) (now (r .entry)) ⌝ }
+// Number 16 of archive, left and right.
+fn twins_due(profile: Profile, o: &[u32], l: &[u32], r: &[u32]) -> Answer
+    ensures { λ a. ⌜ a ≡ twinsOf profile (now (o .entry)) (now (l .entry)) (now (r .entry)) ⌝ }
 {
-    let archive = rules::refusal(rules::check(o), 1);
-    let left = rules::refusal(rules::check(l), 2);
-    let right = rules::refusal(rules::check(r), 3);
+    let archive = rules::twins_refusal(rules::find_twins(profile, o), 1);
+    let left = rules::twins_refusal(rules::find_twins(profile, l), 2);
+    let right = rules::twins_refusal(rules::find_twins(profile, r), 3);
     rules::first_of(archive, rules::first_of(left, right))
+}
+
+// The tables' faults: 1 and 2 of archive, left and right, then 16 of each.
+fn tables_due(profile: Profile, o: &[u32], l: &[u32], r: &[u32]) -> Answer
+    ensures { λ a. ⌜ a ≡ tablesDue profile (now (o .entry)) (now (l .entry)) (now (r .entry)) ⌝ }
+{
+    let archive = rules::refusal(rules::check(profile, o), 1);
+    let left = rules::refusal(rules::check(profile, l), 2);
+    let right = rules::refusal(rules::check(profile, r), 3);
+    let twins = twins_due(profile, o, l, r);
+    rules::first_of(
+        archive,
+        rules::first_of(left, rules::first_of(right, twins)),
+    )
 }
 
 // The rooms' faults: archive, left, right, list. The last four are the words lent.
@@ -87,6 +103,34 @@ fn answer_with(due: Answer, c: Counts) -> Reconciled
             right: 0,
             list: 0,
         },
+    }
+}
+
+// The plan of three tables of which the first n are still to be keyed, at the start of a buffer; how many words it has.
+// Each turn has one table's keys, so that a frame holds one array.
+fn settle_keyed(n: usize, o: &[u32], l: &[u32], r: &[u32], plan: &mut [u32]) -> usize
+    requires { ⌜ Three (now o) (now l) (now r) ⌝ }
+    requires { ⌜ length (settledAfter n (now o) (now l) (now r)) ≤ length (now plan) ⌝ }
+    ensures { λ q. ⌜ Fills (now (plan .entry)) (settledAfter n (now (o .entry)) (now (l .entry)) (now (r .entry))) (now (plan .exit)) q ⌝ }
+{
+    if n == 0 {
+        return plan_write::settle(o, l, r, plan);
+    }
+    let mut keys = [0u32; 81920];
+    row::key_table(o, &mut keys);
+    let e = o.len();
+    settle_keyed(n - 1, l, r, &keys[..e], plan)
+}
+
+// The plan of three tables, their names matched by their keys, at the start of a buffer; how many words it has.
+fn settle_in(profile: Profile, o: &[u32], l: &[u32], r: &[u32], plan: &mut [u32]) -> usize
+    requires { ⌜ Three (now o) (now l) (now r) ⌝ }
+    requires { ⌜ length (settled (keyed profile (now o)) (keyed profile (now l)) (keyed profile (now r))) ≤ length (now plan) ⌝ }
+    ensures { λ q. ⌜ Fills (now (plan .entry)) (settled (keyed profile (now (o .entry))) (keyed profile (now (l .entry))) (keyed profile (now (r .entry)))) (now (plan .exit)) q ⌝ }
+{
+    match profile {
+        Profile::Exact => plan_write::settle(o, l, r, plan),
+        Profile::Folded => settle_keyed(3, o, l, r, plan),
     }
 }
 
@@ -137,6 +181,7 @@ fn write_results(
 
 // A reconciliation of tables that keep the rules: the plan is made, then the rooms are tried, then all is written.
 fn with_plan(
+    profile: Profile,
     o: &[u32],
     l: &[u32],
     r: &[u32],
@@ -147,14 +192,14 @@ fn with_plan(
     old: Tally,
     plan: &mut [u32],
 ) -> Ran
-    requires { ⌜ (checked (now o) ≡ Fine) × (checked (now l) ≡ Fine) × (checked (now r) ≡ Fine) ⌝ }
+    requires { ⌜ Passes profile (now o) × Passes profile (now l) × Passes profile (now r) ⌝ }
     requires { ⌜ 49152 ≤ length (now plan) ⌝ }
-    ensures { λ res. ⌜ Settles (now (o .entry)) (now (l .entry)) (now (r .entry))
+    ensures { λ res. ⌜ Settles profile (now (o .entry)) (now (l .entry)) (now (r .entry))
         (lent (now (archive .entry)) (now (left .entry)) (now (right .entry)) (now (list .entry)) old)
         (lent (now (archive .exit)) (now (left .exit)) (now (right .exit)) (now (list .exit)) (res .tally))
         (res .answer) ⌝ }
 {
-    let n = plan_write::settle(o, l, r, plan) / 4;
+    let n = settle_in(profile, o, l, r, plan) / 4;
     let c = counts_of(o, l, r, plan, n);
     let due = rooms_due(c, archive.len(), left.len(), right.len(), list.len());
     let answer = answer_with(due, c);
@@ -174,6 +219,7 @@ fn with_plan(
 
 // The whole run, the tally by value: what other functions call.
 pub fn reconcile_plain(
+    profile: Profile,
     o: &[u32],
     l: &[u32],
     r: &[u32],
@@ -183,16 +229,16 @@ pub fn reconcile_plain(
     list: &mut [u32],
     old: Tally,
 ) -> Ran
-    ensures { λ res. ⌜ ReconcileContract (now (o .entry)) (now (l .entry)) (now (r .entry))
+    ensures { λ res. ⌜ ReconcileContract profile (now (o .entry)) (now (l .entry)) (now (r .entry))
         (lent (now (archive .entry)) (now (left .entry)) (now (right .entry)) (now (list .entry)) old)
         (lent (now (archive .exit)) (now (left .exit)) (now (right .exit)) (now (list .exit)) (res .tally))
         (res .answer) ⌝ }
 {
-    let due = tables_due(o, l, r);
+    let due = tables_due(profile, o, l, r);
     match due {
         Answer::Accepted { place: _ } => {
             let mut plan = [0u32; 49152];
-            with_plan(o, l, r, archive, left, right, list, old, &mut plan)
+            with_plan(profile, o, l, r, archive, left, right, list, old, &mut plan)
         }
         Answer::Refused {
             number: _,
@@ -215,6 +261,7 @@ pub fn reconcile_plain(
 
 // Reconciles left and right by the archive: the new tables, the list and the tally.
 pub fn reconcile(
+    profile: Profile,
     o: &[u32],
     l: &[u32],
     r: &[u32],
@@ -224,12 +271,12 @@ pub fn reconcile(
     list: &mut [u32],
     out: &mut Tally,
 ) -> Reconciled
-    ensures { λ res. ⌜ ReconcileContract (now (o .entry)) (now (l .entry)) (now (r .entry))
+    ensures { λ res. ⌜ ReconcileContract profile (now (o .entry)) (now (l .entry)) (now (r .entry))
         (lent (now (archive .entry)) (now (left .entry)) (now (right .entry)) (now (list .entry)) (now (out .entry)))
         (lent (now (archive .exit)) (now (left .exit)) (now (right .exit)) (now (list .exit)) (now (out .exit)))
         res ⌝ }
 {
-    let ran = reconcile_plain(o, l, r, archive, left, right, list, *out);
+    let ran = reconcile_plain(profile, o, l, r, archive, left, right, list, *out);
     *out = ran.tally;
     ran.answer
 }

@@ -1,9 +1,12 @@
 -- What each result takes by a decision, of the rows that it names: one row of what is agreed, for that is a folder on both
--- sides, a file or nothing; else the whole subtree. A row that does not exist has no words.
+-- sides, a file or nothing; else the whole subtree. A row that does not exist has no words. What is moved is called in a new
+-- tree as it is in the tree that the new one goes by, where that one has the entry.
 use mathlib.Core.List.{List, [], _∷_, _++_}
 use Prim.Native.Nat.{ℕ}
-use Rattle.row.specs.Table.{rowAt}
+use lib.ListN.{take, drop}
+use Rattle.row.specs.Table.{Row, rowAt, name}
 use Rattle.find.specs.Subtree.{subtree}
+use Rattle.cursor.specs.declared.Rows.{Rows}
 use Rattle.cursor.specs.declared.Decision.{Decision}
 use Rattle.cursor.specs.declared.Decision.the-variants.{Agreed, LeftGets, RightGets, Clash}
 use Rattle.results.specs.declared.Tree.{Tree}
@@ -30,8 +33,26 @@ sourceWords o l r (RightPart i) = subtree r i
 sourceWords o l r (LeftRow i) = rowAt l i
 sourceWords o l r (RightRow i) = rowAt r i
 
+abbrev pub taken : Tree → List ℕ → List ℕ → List ℕ → Decision → List ℕ
+taken t o l r d = sourceWords o l r (sourceOf d t)
+
+-- the words w of some rows, the first of them called as row r is; as they are where r is no row
+unfoldable pub named : Row → List ℕ → List ℕ
+named [] w = w
+named (x ∷ r) [] = []
+named (x ∷ r) (y ∷ w) = take 2 (y ∷ w) ++ (name (x ∷ r) ++ drop 10 (y ∷ w))
+
+-- the new left and the archive go by left's names, the new right by right's
+abbrev pub nameRow : Tree → List ℕ → List ℕ → Rows → Row
+nameRow Archive l r h = rowAt l (h .l)
+nameRow Left l r h = rowAt l (h .l)
+nameRow Right l r h = rowAt r (h .r)
+
 abbrev pub pieceOf : Tree → List ℕ → List ℕ → List ℕ → Decision → List ℕ
-pieceOf t o l r d = sourceWords o l r (sourceOf d t)
+pieceOf t o l r (Agreed h) = taken t o l r (Agreed h)
+pieceOf t o l r (LeftGets h) = named (nameRow t l r h) (taken t o l r (LeftGets h))
+pieceOf t o l r (RightGets h) = named (nameRow t l r h) (taken t o l r (RightGets h))
+pieceOf t o l r (Clash h) = taken t o l r (Clash h)
 
 -- a new tree: the root's row, which is the same in all tables, then the pieces
 unfoldable pub newTree : Tree → List ℕ → List ℕ → List ℕ → List Decision → List ℕ

@@ -2,13 +2,14 @@
 use cursor::Decision;
 use cursor::Rows;
 ghost use mathlib.Core.Path.{_≡_};
-ghost use Prim.Native.Nat.{_+_, _*_, _%_, _≤_};
-ghost use lib.ListN.{length, drop};
+ghost use Prim.Native.Nat.{_+_, _-_, _*_, _%_, _≤_};
+ghost use lib.ListN.{length, take, drop};
 ghost use Rattle.row.specs.Table.{rowAt};
+ghost use Rattle.row.specs.Buffer.{written};
 ghost use Rattle.plan.specs.Settle.{Three};
 ghost use Rattle.plan.specs.Writes.{Writes, Fills};
 ghost use Rattle.results.specs.Decisions.{decisionOf, decisions, pieces};
-ghost use Rattle.results.specs.Pieces.{sourceOf, sourceWords, newTree, pieceList};
+ghost use Rattle.results.specs.Pieces.{sourceOf, sourceWords, named, nameRow, pieceOf, newTree, pieceList};
 
 // The new trees.
 pub enum Tree {
@@ -108,6 +109,56 @@ fn copy_source(o: &[u32], l: &[u32], r: &[u32], s: Source, out: &mut [u32], at: 
     }
 }
 
+// The first of the rows of out from place at to e called as a row is, where they and the row are there.
+fn rename(row: &[u32], out: &mut [u32], at: usize, e: usize)
+    requires { ⌜ (length (now row) % 20 ≡ 0) × (at ≤ e) × ((e - at) % 20 ≡ 0) × (e ≤ length (now out)) ⌝ }
+    ensures { λ q. ⌜ now (out .exit) ≡ written (now (out .entry)) at (named (now (row .entry)) (take (e - at) (drop at (now (out .entry))))) ⌝ }
+{
+    if row.len() < 20 {
+        return;
+    }
+    if at < e {
+        row::copy_words(&row[2..10], out, at + 2);
+    }
+}
+
+// What is moved, from place at to e of out, called as in the tree that a new tree goes by, where that one has it.
+fn name_moved(l: &[u32], r: &[u32], tree: Tree, h: Rows, out: &mut [u32], at: usize, e: usize)
+    requires { ⌜ (length (now l) % 20 ≡ 0) × (length (now r) % 20 ≡ 0) × (at ≤ e) × ((e - at) % 20 ≡ 0) × (e ≤ length (now out)) ⌝ }
+    ensures { λ q. ⌜ now (out .exit) ≡ written (now (out .entry)) at (named (nameRow tree (now (l .entry)) (now (r .entry)) h) (take (e - at) (drop at (now (out .entry))))) ⌝ }
+{
+    match tree {
+        Tree::Archive => rename(one_row(l, h.l), out, at, e),
+        Tree::Left => rename(one_row(l, h.l), out, at, e),
+        Tree::Right => rename(one_row(r, h.r), out, at, e),
+    }
+}
+
+// A new tree's piece for a decision, into out at place at; the next place.
+fn write_piece(
+    o: &[u32],
+    l: &[u32],
+    r: &[u32],
+    tree: Tree,
+    d: Decision,
+    out: &mut [u32],
+    at: usize,
+) -> usize
+    requires { ⌜ Three (now o) (now l) (now r) ⌝ }
+    requires { ⌜ at + length (pieceOf tree (now o) (now l) (now r) d) ≤ length (now out) ⌝ }
+    ensures { λ q. ⌜ Writes (now (out .entry)) at (pieceOf tree (now (o .entry)) (now (l .entry)) (now (r .entry)) d) (now (out .exit)) q ⌝ }
+{
+    let s = takes(tree, d);
+    let e = copy_source(o, l, r, s, out, at);
+    match d {
+        Decision::Agreed(_) => {}
+        Decision::LeftGets(h) => name_moved(l, r, tree, h, out, at, e),
+        Decision::RightGets(h) => name_moved(l, r, tree, h, out, at, e),
+        Decision::Clash(_) => {}
+    }
+    e
+}
+
 // How many words a new tree has. A plan has no more items than the three tables have rows, 12,288 at most.
 pub fn count_tree(o: &[u32], l: &[u32], r: &[u32], tree: Tree, plan: &[u32], n: usize) -> usize
     requires { ⌜ Three (now o) (now l) (now r) ⌝ }
@@ -144,8 +195,8 @@ pub fn write_tree(
     let mut at = row::copy_words(&l[0..20], out, 0);
     let mut k = 0;
     while k < n {
-        let s = takes(tree, decode(plan, k));
-        at = copy_source(o, l, r, s, out, at);
+        let d = decode(plan, k);
+        at = write_piece(o, l, r, tree, d, out, at);
         k += 1;
     }
     at

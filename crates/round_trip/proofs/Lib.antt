@@ -1,2 +1,3 @@
 -- The round trip over calls.
+pub mod Tables
 pub mod Calls

@@ -3,7 +3,9 @@ use mathlib.Core.List.{List, [], _∷_, _++_}
 use mathlib.Core.Bool.{cond}
 use lib.Dec.{ltb}
 use Prim.Native.Nat.{ℕ, zero, suc}
-use Rattle.tree.specs.Forest.{TreePath}
+use Rattle.tree.specs.Forest.{TreePath, Node, kids}
+use Rattle.tree.specs.declared.Profile.{Profile}
+use Rattle.tree.specs.Key.{entry, spelling}
 use Rattle.row.specs.Table.{rowAt, depth, name}
 
 -- the last row before row i that is less deep than d; row 0 where there is none
@@ -27,3 +29,8 @@ namesBack w d (suc i) =
 -- the path of row i, its own name the last; the root's is empty
 unfoldable pub pathOf : List ℕ → ℕ → TreePath
 pathOf w i = namesBack w (suc (depth (rowAt w i))) i
+
+-- a path of keys as x spells it
+unfoldable pub spelledIn : Profile → Node → TreePath → TreePath
+spelledIn p x [] = []
+spelledIn p x (k ∷ q) = spelling p k (kids x) k ∷ spelledIn p (entry p k (kids x)) q

@@ -8,7 +8,7 @@ use Prim.Native.Nat.{ℕ, zero, suc, _*_, _<_}
 use borrow.Author.Tests.{ne-eqb}
 use Rattle.tree.specs.Name.{Name}
 use Rattle.tree.specs.Forest.{Content, Forest, Forest.end, Forest.leaf, Forest.dir, Node, Node.absent, Node.file, Node.folder, add, size}
-use Rattle.tree.specs.Rules.{NameRule, ContentRule, Within, WellFormed}
+use Rattle.tree.specs.Rules.{NameRule, ContentRule, Within}
 use Rattle.tree.proofs.Order.{compare-refl, compare-below, compare-above}
 use Rattle.tree.proofs.Rules.{WithinNode}
 use Rattle.row.specs.Table.{Row, rows, depth, kind, name, content}
@@ -119,25 +119,24 @@ siblings-node k d n (file c) rs N w h = rw (compare-refl d, entry-file d N w)
 siblings-node k d n (folder j) rs N w h = rw (compare-refl d, entry-folder d N, siblings-rows k (suc d) j rs w h, siblings-skip d (suc d) j rs (omega arith))
 
 -- the rows of a whole tree
-pub whole-table : (f : Forest) → WellFormed f → Whole (nodeRows 0 rootName (folder f))
-unfolding nodeRows Whole
-whole-table f W = (refl, whole-rowsOf 16 1 f (W .within))
+module _ (f : Forest) (W : Within NameRule ContentRule 16 f) where
+  whole-table : Whole (nodeRows 0 rootName (folder f))
+  unfolding nodeRows Whole
+  whole-table = (refl, whole-rowsOf 16 1 f W)
 
-pub rows-table : (f : Forest) → WellFormed f → rows (table f) ≡ nodeRows 0 rootName (folder f)
-unfolding table
-rows-table f W = rows-flat (nodeRows 0 rootName (folder f)) (whole-table f W)
+  pub rows-table : rows (table f) ≡ nodeRows 0 rootName (folder f)
+  unfolding table
+  rows-table = rows-flat (nodeRows 0 rootName (folder f)) whole-table
 
-pub length-table : (f : Forest) → WellFormed f → length (table f) ≡ 20 * suc (size f)
-unfolding table nodeRows
-length-table f W =
-    length-flat (nodeRows 0 rootName (folder f)) (whole-table f W) ∙ ap (λ (n : ℕ). 20 * suc n) (length-rows 1 f)
+  pub length-table : length (table f) ≡ 20 * suc (size f)
+  unfolding table nodeRows
+  length-table = length-flat (nodeRows 0 rootName (folder f)) whole-table ∙ ap (λ (n : ℕ). 20 * suc n) (length-rows 1 f)
 
--- the tree of a tree's table is the tree
-pub tree-table : (f : Forest) → WellFormed f → treeOf (table f) ≡ f
-unfolding treeOf nodeRows Ended
-tree-table f W =
-    rw (rows-table f W) (ap (siblings 1) (sym (append-nil (rowsOf 1 f))) ∙ siblings-rows 16 1 f [] (W .within) tt)
+  -- the tree of a tree's table is the tree
+  pub tree-table : treeOf (table f) ≡ f
+  unfolding treeOf nodeRows Ended
+  tree-table = rw rows-table (ap (siblings 1) (sym (append-nil (rowsOf 1 f))) ∙ siblings-rows 16 1 f [] W tt)
 
 -- so two trees with equal tables are equal
-pub table-one : (f g : Forest) → WellFormed f → WellFormed g → table f ≡ table g → f ≡ g
+pub table-one : (f g : Forest) → Within NameRule ContentRule 16 f → Within NameRule ContentRule 16 g → table f ≡ table g → f ≡ g
 table-one f g F G e = sym (tree-table f F) ∙ ap treeOf e ∙ tree-table g G

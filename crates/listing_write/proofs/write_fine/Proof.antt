@@ -8,7 +8,7 @@ use Prim.Native.Nat.{ℕ}
 use borrow.Author.Needs.{needs}
 use Rattle.row.specs.Tree.{treeOf}
 use Rattle.listing.specs.Writing.{textOf}
-use Rattle.rules.proofs.Fine.{fine-most, fine-rows, fine-formed}
+use Rattle.rules.proofs.Keyed.{passed-words, passed-rows, passed-formed}
 use Rattle.rules.proofs.Small.{small-all}
 use Rattle.spell.proofs.Poured.{poured-empty, poured-over}
 use Rattle.listing_write.specs.Rows.{textByRows}
@@ -23,7 +23,8 @@ same-text : (c : tie.After-shared-slice-known) → textByRows (c .before .args .
 same-text c =
     let w = c .before .args .table .now in
     let small = small-all w (λ i. omega (arith, c .shared-slice-known .given i)) in
-    listing-text w (treeOf w) (fine-formed w (c .before .pre) small) (fine-rows w (c .before .pre))
+    let P = c .before .pre in
+    listing-text w (treeOf w) (passed-formed (P .0) w (P .1) small .within) (passed-rows (P .0) w (P .1))
 
 nothing : (c : tie.After-put-listing) → c .put-listing .last .0 ≡ []
 nothing c = c .put-listing .ensures .holds ∙ poured-empty 0 (textByRows (c .before .before .before .before .args .table .now))
@@ -47,13 +48,13 @@ returns c =
     let yes = sym (room h) ∙ c .before .before .before .before .if1 .taken in
     let P = rw (nothing p, same-text k) at (c .before .before .put-listing2 .ensures) in
     rw (P .holds ∙ poured-over (a .text .now) s (fits-lent (length s) (length (a .text .now)) yes), P .counted ∙ zero-add (length s))
-    (done (a .table .now) (a .text .now) (k .before .pre) yes)
+    (done s (a .text .now) yes)
 
 returns-2 : tie.Need-returns-2
 returns-2 c =
     let p = c .before .before .before .before in
     let s = p .before .before .before .before in
-    rw (nothing p) (no-room (s .args .table .now) (s .args .text .now) (s .pre) (sym (room (c .before)) ∙ c .if1 .left))
+    rw (nothing p) (no-room (textOf (treeOf (s .args .table .now))) (s .args .text .now) (sym (room (c .before)) ∙ c .if1 .left))
 
 pub write-fine-spec : {M : Type 1} → statement M
 write-fine-spec =
@@ -61,9 +62,9 @@ write-fine-spec =
     (tie.spec
     (λ c. search needs)
     (λ c. search needs)
-    (λ c κs. fine-most _ (c .before .before .before .pre))
+    (λ c κs. let P = c .before .before .before .pre in passed-words (P .0) _ (P .1))
     (λ c κs. search needs)
-    (λ c κs. fine-most _ (c .before .before .before .before .before .before .before .before .before .pre))
+    (λ c κs. let P = c .before .before .before .before .before .before .before .before .before .pre in passed-words (P .0) _ (P .1))
     (λ c. search needs)
     returns
     (λ c. search needs)

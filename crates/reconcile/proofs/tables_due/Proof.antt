@@ -9,12 +9,15 @@ use Rattle.reconcile.proofs.tables_due.Tie as tie
 returns : tie.Need-returns
 unfolding tablesDue firstRefusal
 returns c =
-    let right = c .before .before in
+    let twins = c .before .before .before in
+    let right = twins .before in
     let left = right .before .before in
     let archive = left .before .before in
     rw (
-      c .first-of2 .ensures,
-      c .before .first-of .ensures,
+      c .first-of3 .ensures,
+      c .before .first-of2 .ensures,
+      c .before .before .first-of .ensures,
+      twins .twins-due .ensures,
       right .refusal3 .ensures,
       right .before .check3 .ensures,
       left .refusal2 .ensures,
@@ -28,6 +31,8 @@ pub tables-due-spec : {M : Type 1} → statement M
 tables-due-spec =
     tie.close
     (tie.spec
+    (λ c κs. search needs)
+    (λ c κs. search needs)
     (λ c κs. search needs)
     (λ c κs. search needs)
     (λ c κs. search needs)

@@ -1,13 +1,13 @@
 -- `count_tree` counts a new tree's words.
 use mathlib.Core.Path.{sym}
 use native.Mathlib.Omega.{arith}
-use lib.ListN.{length}
-use Prim.Native.Nat.{_-_, _≤_}
+use lib.ListN.{length, drop}
+use Prim.Native.Nat.{_*_, _-_, _≤_}
 use borrow.Author.Needs.{needs}
-use Rattle.results.specs.Decisions.{decisions}
+use Rattle.results.specs.Decisions.{decisionOf, decisions}
 use Rattle.results.specs.Pieces.{pieceOf, newTree}
 use Rattle.results.proofs.Rest.{Counting, count-start, count-next, count-end}
-use Rattle.results.proofs.Pieces.{source-small, tree-length}
+use Rattle.results.proofs.Pieces.{source-small, piece-length, tree-length}
 use Rattle.results.proofs.count_tree.Statement.{statement}
 use Rattle.results.proofs.count_tree.Tie as tie
 
@@ -39,7 +39,8 @@ loop-again c =
     let a = s .args in
     let b = source-small (a .o .now) (a .l .now) (a .r .now) (s .pre .0) (c .before .takes .result) in
     let e = rw (c .before .takes .ensures, d .decode .ensures) at (c .source-len .ensures) in
-    count-next (l .loop .inv) (search needs) e (omega arith)
+    let m = piece-length (a .tree) (a .o .now) (a .l .now) (a .r .now) (s .pre .0) (decisionOf (drop (4 * l .loop .k) (a .plan .now))) in
+    count-next (l .loop .inv) (search needs) (cc) (omega arith)
 
 returns : tie.Need-returns Inv-loop μ-loop
 returns c = count-end (c .before .loop .inv) (c .loop-test .left)

@@ -27,9 +27,9 @@ loop-holds : tie.Need-loop-holds Inv-loop μ-loop
 loop-holds c = write-start
 
 -- there is room for the pieces behind the root's row
-copy-source-requires : tie.Need-copy-source-requires Inv-loop μ-loop
-copy-source-requires c κs =
-    let d = c .before .before in
+write-piece-requires : tie.Need-write-piece-requires Inv-loop μ-loop
+write-piece-requires c κs =
+    let d = c .before in
     let l = d .before .before in
     let w = l .before .before .before in
     let s = w .before .before .before .before .before .before .before .before in
@@ -37,12 +37,12 @@ copy-source-requires c κs =
     let y = decisions (a .n) (a .plan .now) in
     let q = w .copy-words in
     let m = tree-room (a .tree) (a .o .now) (a .l .now) (a .r .now) y (s .pre .1 .1 .1) (q .ensures .0) (q .kept .1 .0) in
-    (s .pre .0, rw (c .before .takes .ensures, d .decode .ensures) (room (l .loop .inv) (search needs) m))
+    (s .pre .0, rw (d .decode .ensures) (room (l .loop .inv) (search needs) m))
 
 loop-again : tie.Need-loop-again Inv-loop μ-loop
 loop-again c =
     let v = c .before .before in
-    let d = v .before .before .before in
+    let d = v .before .before in
     let l = d .before .before in
     let w = l .before .before .before in
     let s = w .before .before .before .before .before .before .before .before in
@@ -50,8 +50,8 @@ loop-again c =
     let y = decisions (a .n) (a .plan .now) in
     let q = w .copy-words in
     let m = tree-room (a .tree) (a .o .now) (a .l .now) (a .r .now) y (s .pre .1 .1 .1) (q .ensures .0) (q .kept .1 .0) in
-    let e = rw (v .before .before .takes .ensures, d .decode .ensures) at (v .copy-source .ensures) in
-    write-next (l .loop .inv) (search needs) m (v .copy-source .kept .1 .1 .1 .1 .0) e
+    let e = rw (d .decode .ensures) at (v .write-piece .ensures) in
+    write-next (l .loop .inv) (search needs) m (v .write-piece .kept .1 .1 .1 .1 .1 .0) e
 
 same-length : tie.Need-same-length Inv-loop μ-loop
 same-length c = c .before .loop .inv .same ∙ c .before .before .before .before .copy-words .kept .1 .0
@@ -74,8 +74,7 @@ write-tree-spec =
     copy-words-requires
     loop-holds
     (λ c κs. search needs)
-    (λ c κs. search needs)
-    copy-source-requires
+    write-piece-requires
     (λ c. search needs)
     (λ c. search needs)
     loop-again

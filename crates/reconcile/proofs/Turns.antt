@@ -1,0 +1,47 @@
+-- Three tables keyed in turn: what one turn leaves, and that after three all are keyed.
+use mathlib.Core.Path.{_≡_, refl}
+use mathlib.Core.List.{List}
+use native.Mathlib.Omega.{arith}
+use lib.ListN.{length, take, drop}
+use lib.Seq.{take-at}
+use Prim.Native.Nat.{ℕ, zero, suc, _-_, _%_, _<_}
+use Rattle.tree.specs.declared.Profile.the-variants.{Exact, Folded}
+use Rattle.row.specs.Buffer.{over}
+use Rattle.row.specs.Keyed.{keyed}
+use Rattle.row.proofs.Keyed.{length-keyed, keyed-exact}
+use Rattle.plan.specs.Settle.{Three, settled}
+use Rattle.reconcile.specs.Steps.{settledAfter}
+
+pub turns-done : (n : ℕ) (o l r : List ℕ) → n ≡ 0 → settledAfter n o l r ≡ settled o l r
+unfolding settledAfter
+turns-done n o l r e = rw e
+
+pub turn : (n : ℕ) (o l r : List ℕ) → 0 < n → settledAfter n o l r ≡ settledAfter (n - 1) l r (keyed Folded o)
+unfolding settledAfter
+turn zero o l r h = absurd (omega arith)
+turn (suc n) o l r h = let e : suc n - 1 ≡ n = omega arith in rw e
+
+-- the keyed table in the array
+pub keys-front : (d o : List ℕ) → length o % 20 ≡ 0 → take (length o) (over d (keyed Folded o)) ≡ keyed Folded o
+unfolding over
+keys-front d o h = take-at (keyed Folded o) (drop (length (keyed Folded o)) d) (length o) (length-keyed Folded o h)
+
+pub three-turned : (o l r : List ℕ) → Three o l r → Three l r (keyed Folded o)
+three-turned o l r T =
+    let e = length-keyed Folded o (T .o-whole) in
+    record {
+      o-small = T .l-small;
+      l-small = T .r-small;
+      r-small = rw e (T .o-small);
+      o-whole = T .l-whole;
+      l-whole = T .r-whole;
+      r-whole = rw e (T .o-whole);
+    }
+
+pub turned-thrice : (o l r : List ℕ) → settledAfter 3 o l r ≡ settled (keyed Folded o) (keyed Folded l) (keyed Folded r)
+unfolding settledAfter
+turned-thrice o l r = refl
+
+-- where every byte counts the tables are their own
+pub settled-exact : (o l r : List ℕ) → Three o l r → settled (keyed Exact o) (keyed Exact l) (keyed Exact r) ≡ settled o l r
+settled-exact o l r T = rw (keyed-exact o (T .o-whole), keyed-exact l (T .l-whole), keyed-exact r (T .r-whole))

@@ -1,0 +1,39 @@
+-- `reconcile::twins_due` meets its contract.
+use mathlib.Core.Path.{refl}
+use borrow.Author.Needs.{needs}
+use Rattle.rules.specs.Faults.{firstRefusal}
+use Rattle.reconcile.specs.Run.{twinsOf}
+use Rattle.reconcile.proofs.twins_due.Statement.{statement}
+use Rattle.reconcile.proofs.twins_due.Tie as tie
+
+returns : tie.Need-returns
+unfolding twinsOf firstRefusal
+returns c =
+    let right = c .before .before in
+    let left = right .before .before in
+    let archive = left .before .before in
+    rw (
+      c .first-of2 .ensures,
+      c .before .first-of .ensures,
+      right .twins-refusal3 .ensures,
+      right .before .find-twins3 .ensures,
+      left .twins-refusal2 .ensures,
+      left .before .find-twins2 .ensures,
+      archive .twins-refusal .ensures,
+      archive .before .find-twins .ensures,
+    )
+    refl
+
+pub twins-due-spec : {M : Type 1} → statement M
+twins-due-spec =
+    tie.close
+    (tie.spec
+    (λ c κs. search needs)
+    (λ c κs. search needs)
+    (λ c κs. search needs)
+    (λ c κs. search needs)
+    (λ c κs. search needs)
+    (λ c κs. search needs)
+    (λ c κs. search needs)
+    (λ c κs. search needs)
+    returns)
