@@ -56,7 +56,7 @@ module _ (p : Profile) where
   ruled-fold (dir n k s) r = (rule-key p n (r .0), ruled-fold k (r .1), ruled-fold s (r .2))
 
   -- an entry by its key keeps the rules of its folder
-  ruled-entry : (k d : Name) (f : Forest) → Ruled f → Present (entry p k f) → NameRule (spelling p k f d) × RuledNode (entry p k f)
+  pub ruled-entry : (k d : Name) (f : Forest) → Ruled f → Present (entry p k f) → NameRule (spelling p k f d) × RuledNode (entry p k f)
   unfolding Ruled entry spelling
   ruled-entry k d end r h = absurd h
   ruled-entry k d (leaf m c s) r h = go (cmp k (key p m)) (ruled-entry k d s (r .2)) h

@@ -83,7 +83,7 @@ module _ (p : Profile) where
         e,
       ) (simp append-assoc (sym (append-assoc (rowsOf (suc d) (beforeKey p k t)) (frontKey (suc d) (spelling p k t k) y (foldPath p q)) (nodeRows (suc d + length q) (movedName l x y (foldPath p q)) (respellNode p (reach p y (foldPath p q)) (reach p x (foldPath p q))) ++ (backKey (suc d) y (foldPath p q) ++ rowsOf (suc d) (behindKey p k t)))))))
 
-  count-fold : (x : Node) → rowCount (foldNode p x) ≡ rowCount x
+  pub count-fold : (x : Node) → rowCount (foldNode p x) ≡ rowCount x
   count-fold absent = refl
   count-fold (file c) = refl
   count-fold (folder k) = ap suc (size-fold p k)
@@ -141,7 +141,7 @@ module _ (p : Profile) where
     key-own e [] m x = key-spelling p k (kids x) k e
     key-own e (n ∷ q) m x = key-own e q (spelling p n (kids x) n) (entry p n (kids x))
 
-  path-entry : (q : TreePath) (n : Name) → foldPath p (q ++ (n ∷ [])) ≡ foldPath p q ++ (key p n ∷ [])
+  pub path-entry : (q : TreePath) (n : Name) → foldPath p (q ++ (n ∷ [])) ≡ foldPath p q ++ (key p n ∷ [])
   path-entry [] n = refl
   path-entry (m ∷ q) n = ap (λ (r : TreePath). key p m ∷ r) (path-entry q n)
 
