@@ -1,7 +1,7 @@
 -- The answer that a move is due, and its contract from what is written.
 use mathlib.Core.Path.{_≡_, refl, sym, ap, subst, _∙_}
 use mathlib.Core.List.{List, [], _∷_, _++_}
-use mathlib.Core.Bool.{Bool, true, false, cond, _&&_}
+use mathlib.Core.Bool.{true, false, cond, _&&_}
 use native.Mathlib.Omega.{arith}
 use lib.Dec.{leb}
 use lib.ListN.{length}
@@ -81,8 +81,7 @@ module _ (p : Profile) (target source : List ℕ) (names : List Name) (depth : �
   unfolding All inputsDue
   inputs-passed a e =
       let h = all-passed inputs (Accepted 0) a e in
-      let d = path-depth names depth (unless-true (pathRule names depth) 5 0 (h .1 .1 .1 .1 .0)) in
-      (
+      let d = path-depth names depth (unless-true (pathRule names depth) 5 0 (h .1 .1 .1 .1 .0)) in (
         record { checked-fine = refusal-fine (checkedIn p target) 2 (h .0); no-twins = twins-fine p target 2 (h .1 .1 .0) },
         record { checked-fine = refusal-fine (checkedIn p source) 3 (h .1 .0); no-twins = twins-fine p source 3 (h .1 .1 .1 .0) },
         d .0,

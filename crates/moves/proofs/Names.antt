@@ -1,19 +1,17 @@
 -- A path's names and their keys: a path of keys is its own, and what a move is turns on a path's keys alone.
-use mathlib.Core.Path.{_≡_, refl, sym, ap, ap₂, subst, _∙_}
-use mathlib.Core.List.{List, [], _∷_, _++_, map}
+use mathlib.Core.Path.{_≡_, refl, sym, ap, ap₂, _∙_}
+use mathlib.Core.List.{List, [], _∷_, map}
 use native.Mathlib.Omega.{arith}
 use native.Mathlib.Nat.{le-of-suc-le-suc}
 use lib.ListN.{length, take, getD}
-use lib.Seq.{ext-getD}
 use Prim.Native.Nat.{ℕ, zero, suc, _-_, _<_}
 use Rattle.tree.specs.Name.{Name}
-use Rattle.tree.specs.Forest.{Forest, TreePath}
+use Rattle.tree.specs.Forest.{TreePath}
 use Rattle.tree.specs.declared.Profile.{Profile}
 use Rattle.tree.specs.Key.{key, foldPath}
 use Rattle.tree.proofs.Keys.{key-idem}
 use Rattle.settle.specs.Spelled.{movedIn}
 use Rattle.rules.specs.declared.Answer.{Answer}
-use Rattle.moves.specs.Path.{pathOf, parentOf}
 use Rattle.moves.specs.Pieces.{CarriedOut}
 
 module _ (p : Profile) where

@@ -6,11 +6,11 @@ use mathlib.Core.Bool.{true, false, cond}
 use native.Mathlib.Omega.{arith}
 use native.Mathlib.Nat.{zero-add}
 use native.Mathlib.Numerals.{sub-one}
-use lib.ListN.{length, take, drop, getD, length-append, length-take, length-drop}
-use lib.Seq.{take-suc, take-all}
-use Prim.Native.Nat.{ℕ, zero, suc, _+_, _*_, _-_, _/_, _≤_}
+use lib.ListN.{length, take, getD, length-take}
+use lib.Seq.{take-suc}
+use Prim.Native.Nat.{ℕ, zero, suc, _+_, _*_, _-_, _≤_}
 use Rattle.tree.specs.Name.{Name}
-use Rattle.tree.specs.Forest.{Forest, Forest.end, Node, Node.absent, Node.file, Node.folder, TreePath, Present, kids, at, size}
+use Rattle.tree.specs.Forest.{Forest, Node, Node.absent, Node.file, Node.folder, TreePath, Present, kids, at, size}
 use Rattle.tree.specs.Rules.{Words32, NameRule, ContentRule, Within, zeros}
 use Rattle.tree.proofs.Forest.{sorted-at}
 use Rattle.tree.specs.Put.{put}
@@ -20,7 +20,6 @@ use Rattle.tree.proofs.Never.{never}
 use Rattle.tree.proofs.Keys.{key-idem, zeros-key}
 use Rattle.tree.proofs.Put.{put-folder}
 use Rattle.tree.proofs.Folds.{key-spelling, size-respell, within-respell, respellNode, reach, ownName, reach-fold}
-use Rattle.settle.specs.Resume.{moved}
 use Rattle.settle.specs.Spelled.{movedIn}
 use Rattle.row.specs.Table.{rows, flat}
 use Rattle.row.specs.Tree.{rowsOf, nodeRows, rootName, table, treeOf}
@@ -32,7 +31,7 @@ use Rattle.rules.specs.Keyed.{Passes}
 use Rattle.rules.proofs.Keyed.{passed-table, passed-formed, passed-whole, passed-words}
 use Rattle.find.specs.declared.Found.the-variants.{At, Nothing}
 use Rattle.find.specs.Entry.{place}
-use Rattle.stands.specs.Stands.{Stands, Holds}
+use Rattle.stands.specs.Stands.{Holds}
 use Rattle.stands.specs.Around.{entryEnd, rowIn, nameOn}
 use Rattle.stands.proofs.Forest.{wide-rowsOf, ruled-within}
 use Rattle.stands.proofs.Path.{leads}
@@ -100,7 +99,7 @@ module _ (p : Profile) where
   moved-folder q n g f =
       let x = at (folder (fold p g)) (foldPath p (q ++ (n ∷ []))) in
       let e : folder (kids (put (foldPath p (q ++ (n ∷ []))) x (folder (fold p f)))) ≡ put (foldPath p (q ++ (n ∷ []))) x (folder (fold p f)) =
-          subst (λ (r : TreePath). folder (kids (put r x (folder (fold p f)))) ≡ put r x (folder (fold p f))) (sym (path-entry p q n)) (put-folder (foldPath p q) (key p n) x (fold p f)) in
+      subst (λ (r : TreePath). folder (kids (put r x (folder (fold p f)))) ≡ put r x (folder (fold p f))) (sym (path-entry p q n)) (put-folder (foldPath p q) (key p n) x (fold p f)) in
       ap (λ (y : Node). respellNode p (folder f) (respellNode p (folder g) y)) (sym e)
 
   -- an entry n of the folder that stands at the path q, at row i

@@ -4,16 +4,16 @@ use mathlib.Core.List.{List, [], _∷_, _++_, append-nil}
 use native.Mathlib.Omega.{arith}
 use native.Mathlib.Nat.{zero-add}
 use lib.ListN.{length, take, drop, length-append}
-use Prim.Native.Nat.{ℕ, zero, suc, _+_, _*_, _-_, _%_, _≤_}
+use Prim.Native.Nat.{ℕ, suc, _+_, _*_, _-_, _≤_}
 use Rattle.tree.specs.Name.{Name}
 use Rattle.tree.specs.Forest.{Forest, Forest.end, Node, Node.absent, Node.file, Node.folder, TreePath, Present, kids, at, add}
 use Rattle.tree.specs.Rules.{Words32, NameRule, ContentRule, Within}
 use Rattle.tree.specs.declared.Profile.{Profile}
-use Rattle.tree.specs.Key.{key, fold, foldNode, entry, spelling, FormedIn}
+use Rattle.tree.specs.Key.{fold, foldNode, entry, spelling, FormedIn}
 use Rattle.tree.proofs.Size.{rowCount}
 use Rattle.tree.proofs.Rules.{WithinNode, within-kids, within-add}
 use Rattle.tree.proofs.Folds.{formed-fold, present-fold, within-entry, reach, ownName, reach-fold, reach-absent}
-use Rattle.row.specs.Table.{Row, rows, flat}
+use Rattle.row.specs.Table.{rows, flat}
 use Rattle.row.specs.Tree.{rowsOf, nodeRows, rootName, table, treeOf}
 use Rattle.row.specs.Keyed.{keyed}
 use Rattle.row.proofs.Keyed.{table-keyed}
@@ -22,9 +22,9 @@ use Rattle.rules.specs.Keyed.{Passes}
 use Rattle.rules.proofs.Keyed.{passed-table, passed-formed}
 use Rattle.find.specs.declared.Found.{Found}
 use Rattle.find.specs.declared.Found.the-variants.{At, Nothing}
-use Rattle.find.specs.Subtree.{endOf, subtree}
+use Rattle.find.specs.Subtree.{endOf}
 use Rattle.follow.specs.Follow.{follow}
-use Rattle.stands.specs.Stands.{Stands, RuledNode, Holds, foundAt}
+use Rattle.stands.specs.Stands.{RuledNode, Holds, foundAt}
 use Rattle.stands.specs.Around.{rowIn, nameOn}
 use Rattle.stands.proofs.Forest.{ruled-within}
 use Rattle.stands.proofs.Subtree.{present-found, stands-end, holds-table}
@@ -33,7 +33,7 @@ use Rattle.stands.proofs.Moved.{count-fold}
 use Rattle.respell.proofs.Node.{ruled-entry}
 use Rattle.carry.proofs.Nodes.{wordsAt, node-stands, node-words}
 use Rattle.moves.specs.declared.Span.{Span}
-use Rattle.moves.specs.Pieces.{spanOf, Spans}
+use Rattle.moves.specs.Pieces.{Spans}
 
 module _ (p : Profile) where
   -- a table of keys holds the tree of keys

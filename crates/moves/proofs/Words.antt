@@ -1,5 +1,5 @@
 -- Three pieces in words: written one after the other, and how many rows they are.
-use mathlib.Core.Path.{_≡_, refl, sym, ap, ap₂, _∙_}
+use mathlib.Core.Path.{_≡_, sym, ap, ap₂, _∙_}
 use mathlib.Core.List.{List, [], _++_, append-assoc}
 use mathlib.Core.Bool.{true}
 use native.Mathlib.Omega.{arith}
@@ -42,7 +42,7 @@ module _ (p : Profile) (w v words : List ℕ) (i : ℕ) (n : Name) (R : Ready p 
   rows-pieces =
       let g = ordered in
       let l : length (pieces p w v i n words) ≡ 20 * a + length words + (length w - 20 * b) =
-          ap length (sym cut-pieces) ∙ simp (length-append, length-take, length-drop) (omega (arith, R .as-long, R .keys, A .1, B .1)) in
+      ap length (sym cut-pieces) ∙ simp (length-append, length-take, length-drop) (omega (arith, R .as-long, R .keys, A .1, B .1)) in
       omega (arith, R .target .whole, R .source .whole, R .keys, B .1)
 
   pub joins : (lent : List ℕ) → roomRule (a + length words / 20 + (length w / 20 - b)) (length lent) ≡ true → Joins p w v i (20 * a) words (20 * b) lent

@@ -159,8 +159,7 @@ fn join(
     result: &mut [u32],
 )
     requires { ⌜ Joins profile (now target) (now keys) f a (now words) b (now result) ⌝ }
-    ensures { λ r. ⌜ now (result .exit) ≡ over (now (result .entry))
-        (take a (now (target .entry)) ++ (respelled profile (now (target .entry)) (now (keys .entry)) f (now (words .entry)) ++ drop b (now (target .entry)))) ⌝ }
+    ensures { λ r. ⌜ now (result .exit) ≡ over (now (result .entry)) (take a (now (target .entry)) ++ (respelled profile (now (target .entry)) (now (keys .entry)) f (now (words .entry)) ++ drop b (now (target .entry)))) ⌝ }
 {
     let at = row::copy_words(&target[..a], result, 0);
     respell::put_spelled(profile, target, keys, f, words, result, at);
@@ -242,7 +241,16 @@ fn carry_folded(
         row::key_table(source, &mut made);
         let n = source.len();
         let span = span_at(&made[..n], names, depth);
-        return carry_in(Profile::Folded, target, keys, source, span, names, depth, result);
+        return carry_in(
+            Profile::Folded,
+            target,
+            keys,
+            source,
+            span,
+            names,
+            depth,
+            result,
+        );
     }
     row::key_table(target, &mut made);
     let n = target.len();
@@ -281,12 +289,10 @@ pub fn make_move(
 ) -> Answer
     ensures { λ r. ⌜ MoveContract profile (now (target .entry)) (now (source .entry)) names depth (now (result .entry)) (now (result .exit)) r ⌝ }
 {
-    let levels = row::wide(depth);
-    let due = inputs_due(profile, target, source, names, levels);
+    let n = row::wide(depth);
+    let due = inputs_due(profile, target, source, names, n);
     match due {
-        Answer::Accepted { place: _ } => {
-            carry_out(profile, target, source, names, levels, result)
-        }
+        Answer::Accepted { place: _ } => carry_out(profile, target, source, names, n, result),
         Answer::Refused {
             number: _,
             side: _,

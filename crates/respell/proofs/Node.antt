@@ -1,24 +1,21 @@
 -- An entry of a folder, and its counterpart in another table: what the counterpart is, and the name that is taken from it.
 use mathlib.Core.Path.{_≡_, refl, sym, ap, subst, _∙_}
 use mathlib.Core.List.{List, [], _∷_, _++_}
-use native.Mathlib.Omega.{arith}
 use lib.ListN.{length, drop}
-use lib.Seq.{take-at, drop-at}
+use lib.Seq.{drop-at}
 use Prim.Native.Nat.{ℕ, suc, _+_, Ordering, Ordering·lt, Ordering·eq, Ordering·gt}
 use Rattle.tree.specs.Name.{Name, cmp, ifSame}
 use Rattle.tree.specs.Forest.{Content, Forest, Forest.end, Forest.leaf, Forest.dir, Node, Node.absent, Node.file, Node.folder, SortedNode, Present, find, kids, size}
-use Rattle.tree.specs.Rules.{NameRule, ContentRule}
+use Rattle.tree.specs.Rules.{NameRule}
 use Rattle.tree.specs.declared.Profile.{Profile}
 use Rattle.tree.specs.Key.{key, fold, foldNode, entry, spelling}
 use Rattle.tree.proofs.Keys.{key-idem, rule-key}
 use Rattle.tree.proofs.Forest.{sorted-find}
 use Rattle.tree.proofs.Folds.{entry-fold, key-spelling, spelling-none, spelling-some}
-use Rattle.row.specs.Table.{Row, rowAt, name}
+use Rattle.row.specs.Table.{rowAt, name}
 use Rattle.row.specs.Tree.{fileRow, folderRow, rowsOf, nodeRows}
 use Rattle.find.specs.declared.Found.{Found}
 use Rattle.find.specs.declared.Found.the-variants.{At, Nothing}
-use Rattle.find.specs.Entry.{child}
-use Rattle.follow.specs.Follow.{onward}
 use Rattle.stands.specs.Stands.{Stands, Ruled, RuledNode, foundAt}
 use Rattle.stands.specs.Around.{before}
 use Rattle.stands.proofs.Rows.{head}

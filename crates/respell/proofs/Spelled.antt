@@ -1,5 +1,5 @@
 -- The rows of siblings, each spelled as its counterpart, are the rows of the siblings spelled as the folder is.
-use mathlib.Core.Path.{_≡_, refl, sym, ap, subst, _∙_}
+use mathlib.Core.Path.{_≡_, refl, sym, ap, _∙_}
 use mathlib.Core.List.{List, [], _∷_, _++_, append-assoc, append-nil}
 use native.Mathlib.Omega.{arith}
 use native.Mathlib.Numerals.{sub-one}
@@ -7,15 +7,15 @@ use lib.ListN.{length, getD, set, replicate, length-replicate, getD-replicate, l
 use lib.Seq.{getD-set-same, getD-set-other}
 use Prim.Native.Nat.{ℕ, zero, suc, _+_, _-_, _≤_}
 use Rattle.tree.specs.Name.{Name}
-use Rattle.tree.specs.Forest.{Content, Forest, Forest.end, Forest.leaf, Forest.dir, Node, Node.folder, kids}
+use Rattle.tree.specs.Forest.{Forest, Forest.end, Forest.leaf, Forest.dir, Node, Node.folder, kids}
 use Rattle.tree.specs.Rules.{NameRule, ContentRule, Within}
 use Rattle.tree.specs.declared.Profile.{Profile}
 use Rattle.tree.specs.declared.Profile.the-variants.{Exact, Folded}
-use Rattle.tree.specs.Key.{key, entry, spelling, respell}
+use Rattle.tree.specs.Key.{key, entry, respell}
 use Rattle.tree.proofs.Folds.{respell-exact}
 use Rattle.row.specs.Table.{Row, rows, flat, depth, name}
 use Rattle.row.specs.Tree.{fileRow, folderRow, rowsOf}
-use Rattle.row.proofs.Flat.{Whole, rows-flat}
+use Rattle.row.proofs.Flat.{rows-flat}
 use Rattle.find.specs.declared.Found.{Found}
 use Rattle.find.specs.declared.Found.the-variants.{At, Nothing}
 use Rattle.stands.proofs.Forest.{file-name, folder-name, wide-rowsOf, ruled-within}

@@ -1,5 +1,5 @@
 -- A step of the loop: one row more is written, and its counterpart is noted.
-use mathlib.Core.Path.{_≡_, refl, sym, ap, ap₂, subst, _∙_}
+use mathlib.Core.Path.{_≡_, refl, sym, ap, ap₂, _∙_}
 use mathlib.Core.List.{List, [], _∷_, _++_, append-assoc}
 use mathlib.Core.Bool.{Bool, true, false}
 use native.Mathlib.Omega.{arith}
@@ -15,7 +15,6 @@ use Rattle.tree.specs.Key.{key}
 use Rattle.row.specs.Buffer.{written}
 use Rattle.row.specs.Table.{Row, rowAt, rows, flat, depth, name}
 use Rattle.row.proofs.Table.{depth-at, name-at, name-length, rows-cons, rows-nil}
-use Rattle.row.proofs.Buffer.{written-nil}
 use Rattle.find.specs.declared.Found.{Found}
 use Rattle.find.specs.declared.Found.the-variants.{At, Nothing}
 use Rattle.find.specs.Entry.{Inside}

@@ -1,14 +1,14 @@
 -- A move where names are matched by a key changes one piece of the target's rows: those before the path's entry and those after it
 -- stay as they are, and the piece is the source's, spelled as the target's folder there is.
-use mathlib.Core.Path.{_≡_, refl, sym, ap, ap₂, subst, _∙_}
-use mathlib.Core.List.{List, [], _∷_, _++_, append-assoc, append-nil, map}
+use mathlib.Core.Path.{_≡_, refl, sym, ap, ap₂, _∙_}
+use mathlib.Core.List.{List, [], _∷_, _++_, append-assoc, append-nil}
 use native.Mathlib.Omega.{arith}
 use native.Mathlib.Nat.{add-zero}
 use lib.ListN.{length, take, drop, length-append}
 use Prim.Native.Nat.{ℕ, suc, _+_, _*_}
 use Rattle.tree.specs.Name.{Name}
 use Rattle.tree.specs.Forest.{TreePath, Forest, Forest.end, Node, Node.absent, Node.file, Node.folder, SortedNode, Present, find, kids, at, add, size}
-use Rattle.tree.specs.Put.{put, Reaches}
+use Rattle.tree.specs.Put.{Reaches}
 use Rattle.tree.specs.declared.Profile.{Profile}
 use Rattle.tree.specs.Key.{key, fold, foldNode, foldPath, entry, spelling, respell}
 use Rattle.row.specs.Table.{Row, flat}
@@ -19,7 +19,7 @@ use Rattle.tree.proofs.Put.{put-at, reaches-entry}
 use Rattle.tree.proofs.Size.{rowCount}
 use Rattle.tree.proofs.Keys.{key-idem}
 use Rattle.tree.proofs.Folds.{respellNode, respellNode-same, fold-respellNode, foldNode-idem, fold-kids, size-fold, entry-fold, spelling-some, key-spelling, respell-add, reach, ownName, reach-fold}
-use Rattle.row.proofs.Flat.{Whole, flat-append, length-flat}
+use Rattle.row.proofs.Flat.{Whole, length-flat}
 use Rattle.row.proofs.Tree.{rows-add, length-rows}
 use Rattle.stands.specs.Stands.{RuledNode, Holds}
 use Rattle.stands.specs.Around.{before, entryEnd, rowIn}

@@ -1,41 +1,20 @@
-use native.Mathlib.Omega.{arith}
+-- `moves::carry_in` meets its contract: what is put in at the parent's row makes the table of the moved tree.
 use mathlib.Core.Path.{sym, _∙_}
+use native.Mathlib.Omega.{arith}
+use borrow.Author.Needs.{needs}
 use Rattle.follow.proofs.Follow.{inside-at}
 use Rattle.moves.proofs.Due.{carried-out, no-parent}
 use Rattle.moves.proofs.Lookup.{slice-words}
 use Rattle.moves.proofs.Carry.{keys-exact, span-inside, parent-there, parent-gone, inputs-ready, inputs-moved}
-use borrow.Author.Needs.{needs}
 use Rattle.moves.proofs.carry_in.Statement.{statement}
 use Rattle.moves.proofs.carry_in.Tie as tie
-use Rattle.moves.proofs.carry_in.Reads as reads
-use Rattle.moves.proofs.carry_in.Lts as lts
-use Rattle.moves.proofs.parent_row.Reads as parent-row-reads
-use Rattle.moves.proofs.put_in.Reads as put-in-reads
 
--- src/lib.rt:211:11
 parent-row-requires : tie.Need-parent-row-requires
 parent-row-requires c κs =
     let s = c .before .before .before .before in
     let a = s .args in
     (keys-exact (a .profile) (a .target .now) (a .keys .now) (a .source .now) (a .span) (a .t6) (a .depth) (s .pre), s .pre .low, s .pre .high)
 
--- src/lib.rt:212:19
-enum-known-f : tie.Need-enum-known-f
-enum-known-f c = search needs
-
--- src/lib.rt:213:30
-sub-name : tie.Need-sub-name
-sub-name c = search needs
-
--- src/lib.rt:213:24
-mul-name : tie.Need-mul-name
-mul-name c = search needs
-
--- src/lib.rt:213:24
-array-copy-out-name : tie.Need-array-copy-out-name
-array-copy-out-name c = search needs
-
--- src/lib.rt:216:52
 mul-put-in : tie.Need-mul-put-in
 mul-put-in c =
     let s = c .before .before .before .before .before .before .before .before .before in
@@ -44,22 +23,12 @@ mul-put-in c =
     let f = s .pre .spanned .first in
     search needs
 
--- src/lib.rt:216:52
-sub-put-in : tie.Need-sub-put-in
-sub-put-in c = search needs
-
--- src/lib.rt:216:52
-part-put-in-start : tie.Need-part-put-in-start
-part-put-in-start c = search needs
-
--- src/lib.rt:216:52
 part-put-in-end : tie.Need-part-put-in-end
 part-put-in-end c =
     let s = c .before .before .before .before .before .before .before .before .before in
     let a = s .args in
     span-inside (a .profile) (a .target .now) (a .keys .now) (a .source .now) (a .span) (a .t6) (a .depth) (s .pre)
 
--- src/lib.rt:216:13
 put-in-requires : tie.Need-put-in-requires
 put-in-requires c κs =
     let f = c .before .before .before .before in
@@ -69,15 +38,6 @@ put-in-requires c κs =
     inputs-ready (a .profile) (a .target .now) (a .keys .now) (a .source .now) (a .span) (a .t6) (a .depth) (s .pre) (slice-words _ (c .before .before .before .before .before .before .before .before .before .before .shared-slice-known .given)) (slice-words _ (c .before .before .before .before .before .before .before .before .shared-slice-known3 .given)) (omega (arith, s .good)) (f .f .given .0 .0)
     (sym (r .parent-row .ensures .answer) ∙ f .f .given .1) (inside-at _ _ _ (f .f .given .1) (r .parent-row .ensures .inside))
 
--- src/lib.rt:218:27
-enum-told : tie.Need-enum-told
-enum-told c = search needs
-
--- src/lib.rt:198:1
-same-length : tie.Need-same-length
-same-length c = search needs
-
--- src/lib.rt:198:1
 returns : tie.Need-returns
 returns c =
     let f = c .before .before .before .before .before .before .before in
@@ -86,10 +46,9 @@ returns c =
     let a = s .args in
     let e = sym (r .parent-row .ensures .answer) ∙ f .f .given .1 in
     let m = inputs-moved (a .profile) (a .target .now) (a .keys .now) (a .source .now) (a .span) (a .t6) (a .depth) (s .pre) (slice-words _ (c .before .before .before .before .before .before .before .before .before .before .before .before .before .shared-slice-known .given)) (slice-words _ (c .before .before .before .before .before .before .before .before .before .before .before .shared-slice-known3 .given)) (omega (arith, s .good)) (f .f .given .0 .0)
-        e (inside-at _ _ _ (f .f .given .1) (r .parent-row .ensures .inside)) in
+    e (inside-at _ _ _ (f .f .given .1) (r .parent-row .ensures .inside)) in
     carried-out (a .profile) (a .target .now) (a .source .now) (a .t6) (a .depth) (a .result .now) _ _ _ (parent-there (a .profile) (a .target .now) (a .keys .now) (a .source .now) (a .span) (a .t6) (a .depth) (s .pre) _ e) m (c .before .before .put-in .ensures)
 
--- src/lib.rt:198:1
 returns-2 : tie.Need-returns-2
 returns-2 c =
     let s = c .before .before .before .before .before .before .before in
@@ -102,16 +61,16 @@ carry-in-spec =
     tie.close
     (tie.spec
     parent-row-requires
-    enum-known-f
-    sub-name
-    mul-name
-    array-copy-out-name
+    (λ c. search needs)
+    (λ c. search needs)
+    (λ c. search needs)
+    (λ c. search needs)
     mul-put-in
-    sub-put-in
-    part-put-in-start
+    (λ c. search needs)
+    (λ c. search needs)
     part-put-in-end
     put-in-requires
-    enum-told
-    same-length
+    (λ c. search needs)
+    (λ c. search needs)
     returns
     returns-2)

@@ -1,27 +1,21 @@
-use native.Mathlib.Omega.{arith}
+-- `moves::join` meets its contract: each piece goes on where the one before it ended.
 use mathlib.Core.Path.{ap, sym, _∙_}
+use native.Mathlib.Omega.{arith}
 use lib.ListN.{length-take, length-drop}
 use lib.Seq.{length-take-le}
+use borrow.Author.Needs.{needs}
 use Rattle.row.specs.Buffer.{written}
 use Rattle.respell.proofs.Step.{part-behind}
 use Rattle.moves.proofs.Words.{written-three}
-use borrow.Author.Needs.{needs}
 use Rattle.moves.proofs.join.Statement.{statement}
 use Rattle.moves.proofs.join.Tie as tie
-use Rattle.moves.proofs.join.Reads as reads
-use Rattle.moves.proofs.join.Lts as lts
-use Rattle.respell.proofs.put_spelled.Reads as put-spelled-reads
-use Rattle.row.proofs.copy_words.Reads as copy-words-reads
 
--- src/lib.rt:165:30
 slice-aggregate-copy-words : tie.Need-slice-aggregate-copy-words
 slice-aggregate-copy-words c = sym (length-take-le _ _ (c .before .before .before .before .before .pre .first))
 
--- src/lib.rt:165:9
 copy-words-requires : tie.Need-copy-words-requires
 copy-words-requires c κs = let s = c .before .before .before .before .before .before in simp length-take (omega (arith, s .pre .room, s .pre .first))
 
--- src/lib.rt:166:5
 put-spelled-requires : tie.Need-put-spelled-requires
 put-spelled-requires c κs =
     let s = c .before .before .before .before .before .before .before .before .before .before in
@@ -34,23 +28,6 @@ put-spelled-requires c κs =
       room = omega (arith, s .pre .room, c .before .before .before .copy-words .ensures .0);
     }
 
--- src/lib.rt:167:21
-mul-copy-words : tie.Need-mul-copy-words
-mul-copy-words c = search needs
-
--- src/lib.rt:167:21
-sub-copy-words : tie.Need-sub-copy-words
-sub-copy-words c = search needs
-
--- src/lib.rt:167:21
-part-copy-words-start : tie.Need-part-copy-words-start
-part-copy-words-start c = search needs
-
--- src/lib.rt:167:21
-part-copy-words-end : tie.Need-part-copy-words-end
-part-copy-words-end c = search needs
-
--- src/lib.rt:167:43
 add-copy-words : tie.Need-add-copy-words
 add-copy-words c =
     let s = c .before .before .before .before .before .before .before .before .before .before .before .before .before .before .before in
@@ -59,18 +36,12 @@ add-copy-words c =
     let r = s .pre .room in
     search needs
 
--- src/lib.rt:167:5
 copy-words-requires-2 : tie.Need-copy-words-requires-2
 copy-words-requires-2 c κs =
     let s = c .before .before .before .before .before .before .before .before .before .before .before .before .before .before .before in
     let n = length-take-le (s .args .a) (s .args .target .now) (s .pre .first) in
     simp (length-take, length-drop) (omega (arith, c .before .before .before .before .before .before .before .before .copy-words .ensures .0, s .pre .room))
 
--- src/lib.rt:151:1
-same-length : tie.Need-same-length
-same-length c = search needs
-
--- src/lib.rt:151:1
 returns : tie.Need-returns
 returns c =
     let y = c .before .before .before .before .before .before .before in
@@ -86,11 +57,11 @@ join-spec =
     slice-aggregate-copy-words
     copy-words-requires
     put-spelled-requires
-    mul-copy-words
-    sub-copy-words
-    part-copy-words-start
-    part-copy-words-end
+    (λ c. search needs)
+    (λ c. search needs)
+    (λ c. search needs)
+    (λ c. search needs)
     add-copy-words
     copy-words-requires-2
-    same-length
+    (λ c. search needs)
     returns)

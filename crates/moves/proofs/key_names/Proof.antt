@@ -1,7 +1,8 @@
-use native.Mathlib.Omega.{arith}
-use mathlib.Core.Path.{_≡_, sym, ap, _∙_}
+-- `moves::key_names` meets its contract: every name before name i is its key.
+use mathlib.Core.Path.{_≡_, _∙_}
 use mathlib.Core.List.{[]}
-use lib.ListN.{length, getD, set, length-set}
+use native.Mathlib.Omega.{arith}
+use lib.ListN.{length, getD, length-set}
 use lib.Seq.{getD-set-same, getD-set-other}
 use Prim.Native.Nat.{ℕ, _-_, _≤_, _<_}
 use borrow.Author.Count.{below-more}
@@ -11,9 +12,6 @@ use Rattle.tree.specs.Key.{key}
 use Rattle.moves.proofs.Names.{all-keys}
 use Rattle.moves.proofs.key_names.Statement.{statement}
 use Rattle.moves.proofs.key_names.Tie as tie
-use Rattle.moves.proofs.key_names.Reads as reads
-use Rattle.moves.proofs.key_names.Lts as lts
-use Rattle.row.proofs.key_name.Reads as key-name-reads
 
 abbrev Inv-loop : tie.InvT-loop
 Inv-loop names keys₀ i₀ keys i = (i ≤ 16) × (length names ≡ 16) × (length keys ≡ 16) × ((k : ℕ) → k < i → getD keys k [] ≡ key Folded (getD names k []))
@@ -21,52 +19,20 @@ Inv-loop names keys₀ i₀ keys i = (i ≤ 16) × (length names ≡ 16) × (len
 abbrev μ-loop : tie.MeasureT-loop
 μ-loop names keys₀ i₀ keys i = 16 - i
 
--- src/lib.rt:98:5
 loop-holds : tie.Need-loop-holds Inv-loop μ-loop
 loop-holds c = (search needs, omega (arith, c .good), omega (arith, c .good), λ k h. absurd (omega arith))
 
--- src/lib.rt:99:20
-mul-name : tie.Need-mul-name Inv-loop μ-loop
-mul-name c = search needs
-
--- src/lib.rt:99:20
-array-copy-out-name : tie.Need-array-copy-out-name Inv-loop μ-loop
-array-copy-out-name c = search needs
-
--- src/lib.rt:100:19
-key-name-requires : tie.Need-key-name-requires Inv-loop μ-loop
-key-name-requires c κs = search needs
-
--- src/lib.rt:100:9
-mul-keys : tie.Need-mul-keys Inv-loop μ-loop
-mul-keys c = search needs
-
--- src/lib.rt:100:9
-array-set-from-keys : tie.Need-array-set-from-keys Inv-loop μ-loop
-array-set-from-keys c = search needs
-
--- src/lib.rt:101:9
-add-i : tie.Need-add-i Inv-loop μ-loop
-add-i c = search needs
-
--- src/lib.rt:98:5
-loop-less : tie.Need-loop-less Inv-loop μ-loop
-loop-less c = search needs
-
--- src/lib.rt:98:5
 loop-again : tie.Need-loop-again Inv-loop μ-loop
 loop-again c =
     let l = c .before .before .before in
     let k = l .loop .keys in
-    let i = l .loop .i in
-    (
+    let i = l .loop .i in (
       search needs,
       search needs,
       length-set k i (c .key-name .result) ∙ l .loop .inv .2,
       below-more _ _ (λ x h. getD-set-other k i x (c .key-name .result) [] (λ e. omega arith) ∙ l .loop .inv .3 x h) (getD-set-same k i (c .key-name .result) [] (omega arith) ∙ c .key-name .ensures),
     )
 
--- src/lib.rt:93:1
 returns : tie.Need-returns Inv-loop μ-loop
 returns c =
     let l = c .before in
@@ -80,12 +46,12 @@ key-names-spec =
     Inv-loop
     μ-loop
     loop-holds
-    mul-name
-    array-copy-out-name
-    key-name-requires
-    mul-keys
-    array-set-from-keys
-    add-i
-    loop-less
+    (λ c. search needs)
+    (λ c. search needs)
+    (λ c κs. search needs)
+    (λ c. search needs)
+    (λ c. search needs)
+    (λ c. search needs)
+    (λ c. search needs)
     loop-again
     returns)

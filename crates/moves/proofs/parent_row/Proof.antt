@@ -2,9 +2,9 @@
 use mathlib.Core.Path.{sym, _∙_}
 use native.Mathlib.Omega.{arith}
 use borrow.Author.Needs.{needs}
-use Rattle.follow.proofs.Follow.{inside-at}
 use Rattle.tree.specs.declared.Profile.the-variants.{Exact}
 use Rattle.rules.proofs.Keyed.{passed-some}
+use Rattle.follow.proofs.Follow.{inside-at}
 use Rattle.moves.proofs.Lookup.{slice-words, folder-found, file-found, none-found}
 use Rattle.moves.proofs.parent_row.Statement.{statement}
 use Rattle.moves.proofs.parent_row.Tie as tie
