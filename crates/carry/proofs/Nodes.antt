@@ -1,38 +1,53 @@
--- What a list entry carries, on trees: at a path where a node stands, the words of that node and nothing else.
-use mathlib.Core.Path.{_≡_}
-use mathlib.Core.List.{List}
+-- What a list entry carries, on trees: at a path of keys where a node stands, the words of that node and nothing else.
+use mathlib.Core.Path.{_≡_, sym, _∙_}
+use mathlib.Core.List.{List, [], append-nil}
 use native.Mathlib.Nat.{zero-add}
 use lib.ListN.{length}
 use Prim.Native.Nat.{ℕ}
-use Rattle.tree.specs.Forest.{Forest, Node.folder, TreePath, Present, at}
+use Rattle.tree.specs.Forest.{Forest, Node.folder, TreePath, Present}
 use Rattle.tree.specs.Rules.{Words32}
-use Rattle.row.specs.Tree.{rootName, treeOf}
-use Rattle.rules.specs.declared.Checked.the-variants.{Fine}
-use Rattle.rules.specs.Rules.{checked}
+use Rattle.tree.specs.declared.Profile.{Profile}
+use Rattle.tree.specs.Key.{fold}
+use Rattle.tree.proofs.Folds.{reach, ownName}
+use Rattle.row.specs.Table.{flat}
+use Rattle.row.specs.Tree.{nodeRows, rootName, treeOf}
+use Rattle.rules.specs.Keyed.{Passes}
+use Rattle.rules.proofs.Passed.{passed-rows, passed-formed}
+use Rattle.rules.proofs.Passing.{passes-check}
 use Rattle.find.specs.Subtree.{subtree}
-use Rattle.stands.specs.Stands.{Holds}
+use Rattle.stands.specs.Stands.{Stands}
 use Rattle.stands.specs.Around.{rowIn}
-use Rattle.rules.proofs.Fine.{fine-table, fine-formed}
-use Rattle.stands.proofs.Subtree.{holds-table}
-use Rattle.stands.proofs.Path.{leads}
-use Rattle.carry.specs.Carried.{wordsAt, carriedRows}
+use Rattle.stands.proofs.Subtree.{stands-words}
+use Rattle.stands.proofs.Keyed.{stands-reach}
+use Rattle.carry.specs.Carried.{carriedRows}
 
--- a checked table holds its tree
-pub table-holds : (w : List ℕ) → checked w ≡ Fine → Words32 w → Holds w 0 rootName (folder (treeOf w))
-table-holds w e s = rw (fine-table w e) at (holds-table (treeOf w) (fine-formed w e s))
+module _ (p : Profile) where
+  -- the words of what a tree holds at a path of keys
+  unfoldable pub wordsAt : Forest → TreePath → List ℕ
+  wordsAt f q = flat (nodeRows (length q) (ownName p rootName (folder f) q) (reach p (folder f) q))
 
--- the subtree at a node's row is its words
-pub node-words : (w : List ℕ) (f : Forest) (p : TreePath) → Holds w 0 rootName (folder f) → Present (at (folder f) p) → subtree w (rowIn (folder f) p) ≡ wordsAt f p
-unfolding wordsAt
-node-words w f p H h = rw (zero-add (length p)) at (leads p w 0 rootName (folder f) H h .words)
+  -- where it stands in the table
+  module _ (w : List ℕ) (P : Passes p w) (s : Words32 w) (q : TreePath) (h : Present (reach p (folder (treeOf w)) q)) where
+    pub node-stands : Stands w (rowIn (folder (fold p (treeOf w))) q) (length q) (ownName p rootName (folder (treeOf w)) q) (reach p (folder (treeOf w)) q)
+    node-stands =
+        let f = treeOf w in
+        let k = rowIn (folder (fold p f)) q in
+        let r : Stands w 0 0 rootName (folder f) = record { rest = []; here = passed-rows p w P ∙ sym (append-nil (nodeRows 0 rootName (folder f))); ended = tt } in
+        rw (zero-add k, zero-add (length q)) at (stands-reach p q w 0 0 rootName (folder f) r (passed-formed p w P s .sorted) h)
 
-module _ (left right : List ℕ) (i : ℕ) (p : TreePath) (L : checked left ≡ Fine) (R : checked right ≡ Fine) where
-  -- left gets what right holds at the path
-  pub carries-right : Words32 right → Present (at (folder (treeOf right)) p) → carriedRows left right 1 i (rowIn (folder (treeOf right)) p) ≡ wordsAt (treeOf right) p
-  unfolding carriedRows
-  carries-right s h = rw (L, R) (node-words right (treeOf right) p (table-holds right R s) h)
+    pub node-words : subtree w (rowIn (folder (fold p (treeOf w))) q) ≡ wordsAt (treeOf w) q
+    unfolding wordsAt
+    node-words = stands-words w (rowIn (folder (fold p (treeOf w))) q) (length q) (ownName p rootName (folder (treeOf w)) q) (reach p (folder (treeOf w)) q) node-stands h
 
-  -- right gets what left holds at the path
-  pub carries-left : Words32 left → Present (at (folder (treeOf left)) p) → carriedRows left right 2 (rowIn (folder (treeOf left)) p) i ≡ wordsAt (treeOf left) p
-  unfolding carriedRows
-  carries-left s h = rw (L, R) (node-words left (treeOf left) p (table-holds left L s) h)
+  module _ (left right : List ℕ) (i : ℕ) (q : TreePath) (L : Passes p left) (R : Passes p right) where
+    -- left gets what right holds at the path
+    pub carries-right : Words32 right → Present (reach p (folder (treeOf right)) q)
+        → carriedRows p left right 1 i (rowIn (folder (fold p (treeOf right))) q) ≡ wordsAt (treeOf right) q
+    unfolding carriedRows
+    carries-right s h = rw (passes-check p left L, passes-check p right R) (node-words right R s q h)
+
+    -- right gets what left holds at the path
+    pub carries-left : Words32 left → Present (reach p (folder (treeOf left)) q)
+        → carriedRows p left right 2 (rowIn (folder (fold p (treeOf left))) q) i ≡ wordsAt (treeOf left) q
+    unfolding carriedRows
+    carries-left s h = rw (passes-check p left L, passes-check p right R) (node-words left L s q h)

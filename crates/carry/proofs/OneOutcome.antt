@@ -2,7 +2,8 @@
 use mathlib.Core.Path.{_≡_, sym, _∙_}
 use mathlib.Core.List.{List}
 use Prim.Native.Nat.{ℕ}
+use Rattle.tree.specs.declared.Profile.{Profile}
 use Rattle.carry.specs.Carried.{carriedRows}
 
-pub carried-one : (left right : List ℕ) (kind i j : ℕ) (a b : List ℕ) → a ≡ carriedRows left right kind i j → b ≡ carriedRows left right kind i j → a ≡ b
-carried-one left right kind i j a b A B = A ∙ sym B
+pub carried-one : (p : Profile) (left right : List ℕ) (kind i j : ℕ) (a b : List ℕ) → a ≡ carriedRows p left right kind i j → b ≡ carriedRows p left right kind i j → a ≡ b
+carried-one p left right kind i j a b A B = A ∙ sym B

@@ -1,47 +1,24 @@
 -- The first of several checks that fails.
-use mathlib.Core.Path.{_≡_, refl, sym, _∙_}
-use mathlib.Core.List.{List, [], _∷_}
+use mathlib.Core.Path.{_≡_, refl}
+use mathlib.Core.List.{List, [], _∷_, _++_}
 use mathlib.Core.Bool.{Bool, true, false}
-use lib.Dec.{eqb}
 use Prim.Native.Nat.{ℕ}
-use borrow.Author.Tests.{ne-eqb}
 use Rattle.rules.specs.declared.Answer.{Answer}
 use Rattle.rules.specs.declared.Answer.the-variants.{Accepted, Refused}
-use Rattle.rules.specs.declared.Checked.{Checked}
-use Rattle.rules.specs.declared.Checked.the-variants.{Fine, BadLength, BadRow}
-use Rattle.rules.specs.Answer.{numberOf, isAccepted}
-use Rattle.rules.specs.Refusal.{refusalOf}
+use Rattle.rules.specs.Answer.{isAccepted}
 use Rattle.rules.specs.Faults.{firstRefusal, unless}
 use Rattle.tree.proofs.Never.{never}
+use Rattle.rules.proofs.Says.{All}
 
--- two checks made together, and then others
-module _ (a b both : Answer) (e : both ≡ firstRefusal (a ∷ []) b) (more : List Answer) (last : Answer) where
-  pub go-on : (p : ℕ) → both ≡ Accepted p → firstRefusal (a ∷ b ∷ more) last ≡ firstRefusal more last
-  unfolding firstRefusal
-  go-on p h = go a b (sym e ∙ h)
-    where
-      go : (a b : Answer) → firstRefusal (a ∷ []) b ≡ Accepted p → firstRefusal (a ∷ b ∷ more) last ≡ firstRefusal more last
-      go (Accepted x) (Accepted y) q = refl
-      go (Accepted x) (Refused n s y) q = never (cc)
-      go (Refused n s x) b q = never (cc)
-
-  pub stop-there : (n side p : ℕ) → both ≡ Refused n side p → both ≡ firstRefusal (a ∷ b ∷ more) last
-  unfolding firstRefusal
-  stop-there n side p h = e ∙ go a b (sym e ∙ h)
-    where
-      go : (a b : Answer) → firstRefusal (a ∷ []) b ≡ Refused n side p → firstRefusal (a ∷ []) b ≡ firstRefusal (a ∷ b ∷ more) last
-      go (Accepted x) (Accepted y) q = never (cc)
-      go (Accepted x) (Refused m s y) q = refl
-      go (Refused m s x) b q = refl
-
-pub last-check : (b : Bool) (n side : ℕ) → firstRefusal (unless b n side ∷ []) (Accepted 0) ≡ unless b n side
+-- some checks made together, and then a last one
+pub with-last : (xs : List Answer) (a : Answer) (b : Bool) (n side : ℕ)
+    → firstRefusal (firstRefusal xs a ∷ []) (unless b n side) ≡ firstRefusal (xs ++ (a ∷ unless b n side ∷ [])) (Accepted 0)
 unfolding firstRefusal
-last-check true n side = refl
-last-check false n side = refl
-
-unfoldable pub All : (Answer → Type 0) → List Answer → Type 0
-All P [] = Unit {0}
-All P (a ∷ more) = P a × All P more
+with-last [] (Accepted p) true n side = refl
+with-last [] (Accepted p) false n side = refl
+with-last [] (Refused m s p) b n side = refl
+with-last (Accepted p ∷ xs) a b n side = with-last xs a b n side
+with-last (Refused m s p ∷ xs) a b n side = refl
 
 -- where no check fails, each is passed
 pub all-passed : (xs : List Answer) (last : Answer) (p : ℕ) → firstRefusal xs last ≡ Accepted p → All (λ (a : Answer). isAccepted a ≡ true) xs
@@ -49,22 +26,3 @@ unfolding firstRefusal All
 all-passed [] last p e = tt
 all-passed (Accepted q ∷ more) last p e = (refl, all-passed more last p e)
 all-passed (Refused n s q ∷ more) last p e = never (cc)
-
--- an answer whose number is 0 exactly where it is an acceptance
-abbrev pub Numbered : Answer → Type 0
-Numbered a = isAccepted a ≡ eqb (numberOf a) 0
-
-pub numbered-first : (xs : List Answer) (last : Answer) → All Numbered xs → Numbered last → Numbered (firstRefusal xs last)
-unfolding firstRefusal All
-numbered-first [] last h k = k
-numbered-first (Accepted p ∷ more) last h k = numbered-first more last (h .1) k
-numbered-first (Refused n s p ∷ more) last h k = h .0
-
-pub numbered-refusal : (c : Checked) (side : ℕ) → Numbered (refusalOf c side)
-numbered-refusal Fine side = refl
-numbered-refusal BadLength side = refl
-numbered-refusal (BadRow i) side = refl
-
-pub numbered-unless : (b : Bool) (n side : ℕ) → (n ≡ 0 → ⊥) → Numbered (unless b n side)
-numbered-unless true n side h = refl
-numbered-unless false n side h = sym (ne-eqb n 0 h)

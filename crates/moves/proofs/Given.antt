@@ -10,7 +10,8 @@ use borrow.Author.Needs.{needs}
 use borrow.Author.Tests.{le-leb}
 use Rattle.tree.specs.Forest.{TreePath}
 use Rattle.tree.specs.Rules.{Words32, zeros, NameRule, AllNames}
-use Rattle.settle.specs.Resume.{moved}
+use Rattle.tree.specs.declared.Profile.{Profile}
+use Rattle.settle.specs.Spelled.{movedIn}
 use Rattle.row.specs.Tree.{rootName, table, treeOf}
 use Rattle.moves.specs.Path.{Eights, pathOf, slotsOf, slots, pathRule}
 use Rattle.moves.specs.Move.{movedWords}
@@ -44,8 +45,8 @@ module _ (p : TreePath) where
   pub given-length : length p ≤ 16 → length (slotsOf p) ≡ 16
   given-length h = length-append p (replicate (16 - length p) rootName) ∙ (let e = length-replicate (16 - length p) rootName in omega arith)
 
-  pub given-words : (target source : List ℕ) → movedWords target source (slotsOf p) (length p) ≡ table (moved p (treeOf source) (treeOf target))
-  given-words target source = ap (λ (q : TreePath). table (moved q (treeOf source) (treeOf target))) given-path
+  pub given-words : (r : Profile) (target source : List ℕ) → movedWords r target source (slotsOf p) (length p) ≡ table (movedIn r p (treeOf source) (treeOf target))
+  given-words r target source = ap (λ (q : TreePath). table (movedIn r q (treeOf source) (treeOf target))) given-path
 
   module _ (N : AllNames NameRule p) where
     pub given-rule : 1 ≤ length p → length p ≤ 16 → pathRule (slotsOf p) (length p) ≡ true

@@ -1,39 +1,43 @@
--- What a path leads to in a checked table: the row of a folder, and the words of what stands there.
+-- What a path leads to in a checked table: the row of a folder.
 use mathlib.Core.Path.{_≡_, refl, sym, ap, subst, _∙_}
-use mathlib.Core.List.{List, [], _++_}
+use mathlib.Core.List.{List, _++_}
 use mathlib.Core.Bool.{cond}
 use native.Mathlib.Omega.{arith}
-use lib.ListN.{length, take, drop, getD}
-use Prim.Native.Nat.{ℕ, suc, _+_, _*_, _-_, _≤_}
+use lib.ListN.{length, getD}
+use Prim.Native.Nat.{ℕ, suc, _+_}
+use mir.Val.{Fits}
+use mir.Syntax.{w32}
 use Rattle.tree.specs.Name.{Name}
 use Rattle.tree.specs.Forest.{Forest, Node, Node.absent, Node.file, Node.folder, TreePath, Present, at}
-use Rattle.row.specs.Table.{rowAt, kind, flat}
+use Rattle.tree.specs.Rules.{Words32}
+use Rattle.tree.specs.declared.Profile.the-variants.{Exact}
+use Rattle.tree.proofs.Folds.{formed-exact}
+use Rattle.row.specs.Table.{rowAt, kind}
 use Rattle.row.specs.Tree.{fileRow, folderRow, rowsOf, nodeRows, rootName, treeOf}
-use Rattle.rules.specs.declared.Checked.the-variants.{Fine}
-use Rattle.rules.specs.Rules.{checked}
+use Rattle.rules.specs.Keyed.{Passes}
+use Rattle.rules.proofs.Passed.{passed-table, passed-formed}
+use Rattle.rules.proofs.Small.{small-all}
 use Rattle.find.specs.declared.Found.{Found}
 use Rattle.find.specs.declared.Found.the-variants.{At, Nothing}
 use Rattle.find.specs.Entry.{Finds}
-use Rattle.find.specs.Subtree.{endOf, subtree}
 use Rattle.follow.specs.Follow.{follow}
 use Rattle.stands.specs.Stands.{Stands, RuledNode, Holds, foundAt}
 use Rattle.stands.specs.Around.{rowIn, nameOn}
-use Rattle.carry.specs.Carried.{wordsAt}
-use mir.Val.{Fits}
-use mir.Syntax.{w32}
 use Rattle.tree.proofs.Never.{never}
-use Rattle.rules.proofs.Fine.{fine-most}
-use Rattle.follow.proofs.Follow.{inside-at, part-length}
-use Rattle.rules.proofs.Small.{small-all}
+use Rattle.follow.proofs.Follow.{inside-at}
 use Rattle.stands.proofs.Rows.{head}
-use Rattle.carry.proofs.Nodes.{table-holds, node-words}
+use Rattle.stands.proofs.Subtree.{holds-table}
 use Rattle.stands.proofs.Path.{ruled-at, follow-at, leads}
 use Rattle.moves.specs.Move.{isFolder}
-use Rattle.moves.specs.Pieces.{folderAt, WordsAt}
+use Rattle.moves.specs.Pieces.{folderAt}
 
--- a checked table that is a slice, whose words are of 32 bits, holds its tree
-pub slice-holds : (w : List ℕ) → checked w ≡ Fine → ((k : ℕ) → Fits w32 (getD w k 0)) → Holds w 0 rootName (folder (treeOf w))
-slice-holds w e s = table-holds w e (small-all w (λ k. omega (arith, s k)))
+-- the words of a slice are of 32 bits
+pub slice-words : (w : List ℕ) → ((k : ℕ) → Fits w32 (getD w k 0)) → Words32 w
+slice-words w s = small-all w (λ k. omega (arith, s k))
+
+-- a checked table holds its tree
+pub table-holds : (w : List ℕ) → Passes Exact w → Words32 w → Holds w 0 rootName (folder (treeOf w))
+table-holds w P s = rw (passed-table Exact w P) at (holds-table (treeOf w) (formed-exact (treeOf w) (passed-formed Exact w P s)))
 
 found-row : (y : Node) (i j : ℕ) → foundAt y j ≡ At i → Present y × (j ≡ i)
 found-row absent i j e = never (cc)
@@ -58,7 +62,7 @@ kind-at w i d n (file c) h s u = ap kind (head w i (fileRow d n c) (s .rest) (s 
 kind-at w i d n (folder k) h s u = ap kind (head w i (folderRow d n) (rowsOf (suc d) k ++ s .rest) (s .here) .row)
 
 -- a path looked up in a table
-module _ (w : List ℕ) (C : checked w ≡ Fine) (s : (k : ℕ) → Fits w32 (getD w k 0)) (p : TreePath) (r : Found) (e : Finds w (follow p w) r) where
+module _ (w : List ℕ) (P : Passes Exact w) (s : Words32 w) (p : TreePath) (r : Found) (e : Finds w (follow p w) r) where
   abbrev f : Forest
   f = treeOf w
 
@@ -66,7 +70,7 @@ module _ (w : List ℕ) (C : checked w ≡ Fine) (s : (k : ℕ) → Fits w32 (ge
   y = at (folder f) p
 
   H : Holds w 0 rootName (folder f)
-  H = slice-holds w C s
+  H = table-holds w P s
 
   found : r ≡ foundAt y (rowIn (folder f) p)
   found = e .answer ∙ follow-at p w 0 rootName (folder f) H
@@ -77,16 +81,6 @@ module _ (w : List ℕ) (C : checked w ≡ Fine) (s : (k : ℕ) → Fits w32 (ge
 
     stands : Stands w i (0 + length p) (nameOn rootName p) y
     stands = subst (λ (j : ℕ). Stands w j (0 + length p) (nameOn rootName p) y) (here .1) (leads p w 0 rootName (folder f) H (here .0) .stands)
-
-    words-found : subtree w i ≡ wordsAt f p
-    words-found = ap (subtree w) (sym (here .1)) ∙ node-words w f p H (here .0)
-
-    -- the subtree there, as the part that code lends, is the words of what stands at the path
-    pub words-part : (z : ℕ) → (z ≡ endOf w i) × (20 * z ≤ length w) → WordsAt f p (take (20 * z - 20 * i) (drop (20 * i) w))
-    words-part z q =
-        let k = part-length w i z (omega (arith, q .0)) (q .1) in
-        let m = fine-most w C in
-        record { words = ap (λ (z : ℕ). take (20 * z - 20 * i) (drop (20 * i) w)) (q .0) ∙ words-found; rows = record { whole = omega arith; most = omega arith } }
 
     kind-here : kind (rowAt w i) ≡ kindOf y
     kind-here = kind-at w i (0 + length p) (nameOn rootName p) y (here .0) stands (ruled-at p (folder f) (H .ruled))
@@ -110,14 +104,6 @@ module _ (w : List ℕ) (C : checked w ≡ Fine) (s : (k : ℕ) → Fits w32 (ge
         go (file c) k = refl
         go (folder j) k = absurd (k refl)
 
-  module _ (h : r ≡ Nothing) where
-    nothing : y ≡ absent
-    nothing = found-none y (rowIn (folder f) p) (sym found ∙ h)
-
-    pub words-none : WordsAt f p []
-    unfolding wordsAt nodeRows flat
-    words-none = record { words = rw nothing; rows = record { whole = refl; most = omega arith } }
-
-    pub none-found : Finds w (folderAt f p) Nothing
-    unfolding folderAt
-    none-found = record { answer = rw nothing; inside = tt }
+  pub none-found : r ≡ Nothing → Finds w (folderAt f p) Nothing
+  unfolding folderAt
+  none-found h = let z = found-none y (rowIn (folder f) p) (sym found ∙ h) in record { answer = rw z; inside = tt }

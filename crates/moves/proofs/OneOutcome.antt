@@ -3,10 +3,11 @@ use mathlib.Core.Path.{_≡_, sym, _∙_}
 use mathlib.Core.List.{List}
 use Prim.Native.Nat.{ℕ}
 use Rattle.tree.specs.Name.{Name}
+use Rattle.tree.specs.declared.Profile.{Profile}
 use Rattle.rules.specs.declared.Answer.{Answer}
 use Rattle.rules.proofs.Says.{says-one}
 use Rattle.moves.specs.Move.{MoveContract}
 
-pub move-one : (target source : List ℕ) (names : List Name) (depth : ℕ) (lent r q : List ℕ) (a b : Answer)
-    → MoveContract target source names depth lent r a → MoveContract target source names depth lent q b → (a ≡ b) × (r ≡ q)
-move-one target source names depth lent r q a b A B = (says-one a b (A .says) (B .says), A .room ∙ sym (B .room))
+pub move-one : (p : Profile) (target source : List ℕ) (names : List Name) (depth : ℕ) (lent r q : List ℕ) (a b : Answer)
+    → MoveContract p target source names depth lent r a → MoveContract p target source names depth lent q b → (a ≡ b) × (r ≡ q)
+move-one p target source names depth lent r q a b A B = (says-one a b (A .says) (B .says), A .room ∙ sym (B .room))

@@ -41,7 +41,7 @@ put-rows (n ∷ p) d m y (folder k) h = whole (put p y (find n k)) (put-rows p (
         → nodeRows d m (folder (update n z k)) ≡ folderRow d m ∷ ((rowsOf (suc d) (before n k) ++ front (suc d) n (find n k) p) ++ (nodeRows (d + suc (length p)) (nameOn n p) y ++ (back (suc d) (find n k) p ++ rowsOf (suc d) (behind n k))))
     whole z q = ap (λ (rs : List Row). folderRow d m ∷ rs) (rows-update (suc d) n z k ∙ rw (q, e) (simp append-assoc))
 
-flat-three : (a b c : List Row) → flat (a ++ (b ++ c)) ≡ flat a ++ (flat b ++ flat c)
+pub flat-three : (a b c : List Row) → flat (a ++ (b ++ c)) ≡ flat a ++ (flat b ++ flat c)
 flat-three a b c = rw (flat-append a (b ++ c), flat-append b c)
 
 pub length-front : (p : TreePath) (d : ℕ) (m : Name) (x : Node) → length (front d m x p) ≡ rowIn x p

@@ -8,23 +8,23 @@ use Rattle.moves.proofs.make_move.Tie as tie
 carry-out-requires : tie.Need-carry-out-requires
 carry-out-requires c κs =
     let d = c .before .before .before in
-    let a = d .before .before .before .before .before .args in
-    inputs-passed (a .target .now) (a .source .now) (a .names) (d .before .wide .result) _ (sym (d .inputs-due .ensures) ∙ c .before .enum-told .given .1)
+    let a = c .before .before .before .before .before .before .before .before .args in
+    inputs-passed (a .profile) (a .target .now) (a .source .now) (a .names) (d .before .wide .result) _ (sym (d .inputs-due .ensures) ∙ c .before .enum-told .given .1)
 
 returns : tie.Need-returns
 returns c =
     let d = c .before .before .before .before .before .before in
     let l = d .before in
-    let a = l .before .before .before .before .args in
+    let a = c .before .before .before .before .before .before .before .before .before .before .before .args in
     rw (← l .wide .ensures .0)
-    (passes (a .target .now) (a .source .now) (a .names) (l .wide .result) (a .result .now) _ _ _ (sym (d .inputs-due .ensures) ∙ c .before .before .before .before .enum-told .given .1) (c .before .before .carry-out .ensures))
+    (passes (a .profile) (a .target .now) (a .source .now) (a .names) (l .wide .result) (a .result .now) _ _ _ (sym (d .inputs-due .ensures) ∙ c .before .before .before .before .enum-told .given .1) (c .before .before .carry-out .ensures))
 
 returns-2 : tie.Need-returns-2
 returns-2 c =
     let d = c .before .before in
     let l = d .before in
-    let a = l .before .before .before .before .args in
-    rw (← l .wide .ensures .0) (stops (a .target .now) (a .source .now) (a .names) (l .wide .result) (a .result .now) _ _ _ _ (d .inputs-due .ensures) (c .enum-told2 .given .1))
+    let a = c .before .before .before .before .before .before .before .args in
+    rw (← l .wide .ensures .0) (stops (a .profile) (a .target .now) (a .source .now) (a .names) (l .wide .result) (a .result .now) _ _ _ _ (d .inputs-due .ensures) (c .enum-told2 .given .1))
 
 pub make-move-spec : {M : Type 1} → statement M
 make-move-spec =

@@ -2,14 +2,15 @@
 use mathlib.Core.Path.{sym, _∙_}
 use native.Mathlib.Omega.{arith}
 use borrow.Author.Needs.{needs}
+use Rattle.tree.specs.declared.Profile.the-variants.{Exact}
+use Rattle.rules.proofs.Passed.{passed-some}
 use Rattle.follow.proofs.Follow.{inside-at}
-use Rattle.rules.proofs.Fine.{fine-some}
-use Rattle.moves.proofs.Lookup.{folder-found, file-found, none-found}
+use Rattle.moves.proofs.Lookup.{slice-words, folder-found, file-found, none-found}
 use Rattle.moves.proofs.parent_row.Statement.{statement}
 use Rattle.moves.proofs.parent_row.Tie as tie
 
 lookup-requires : tie.Need-lookup-requires
-lookup-requires c κs = (fine-some (c .before .args .t .now) (c .before .pre .0), search needs)
+lookup-requires c κs = (passed-some Exact (c .before .args .t .now) (c .before .pre .0), search needs)
 
 word-requires : tie.Need-word-requires
 word-requires c κs =
@@ -20,19 +21,19 @@ returns : tie.Need-returns
 returns c =
     let l = c .before .before .before .before .before in
     let s = l .before .before in
-    folder-found (s .args .t .now) (s .pre .0) (l .before .shared-slice-known .given) _ _ (l .lookup .ensures) _ (c .before .before .before .i .given .1) (sym (c .before .word .ensures) ∙ c .if1 .taken)
+    folder-found (s .args .t .now) (s .pre .0) (slice-words _ (l .before .shared-slice-known .given)) _ _ (l .lookup .ensures) _ (c .before .before .before .i .given .1) (sym (c .before .word .ensures) ∙ c .if1 .taken)
 
 returns-2 : tie.Need-returns-2
 returns-2 c =
     let l = c .before .before .before .before .before in
     let s = l .before .before in
-    file-found (s .args .t .now) (s .pre .0) (l .before .shared-slice-known .given) _ _ (l .lookup .ensures) _ (c .before .before .before .i .given .1) (λ z. c .if1 .left (c .before .word .ensures ∙ z))
+    file-found (s .args .t .now) (s .pre .0) (slice-words _ (l .before .shared-slice-known .given)) _ _ (l .lookup .ensures) _ (c .before .before .before .i .given .1) (λ z. c .if1 .left (c .before .word .ensures ∙ z))
 
 returns-3 : tie.Need-returns-3
 returns-3 c =
     let l = c .before .before in
     let s = l .before .before in
-    none-found (s .args .t .now) (s .pre .0) (l .before .shared-slice-known .given) _ _ (l .lookup .ensures) (c .enum-told .given .1)
+    none-found (s .args .t .now) (s .pre .0) (slice-words _ (l .before .shared-slice-known .given)) _ _ (l .lookup .ensures) (c .enum-told .given .1)
 
 pub parent-row-spec : {M : Type 1} → statement M
 parent-row-spec =

@@ -1,20 +1,32 @@
--- `moves::tables_due` meets its contract: the source is looked at where the target is fine.
+-- `moves::tables_due` meets its contract.
+use mathlib.Core.Path.{refl}
 use borrow.Author.Needs.{needs}
 use Rattle.rules.specs.Faults.{firstRefusal}
+use Rattle.moves.specs.Pieces.{tablesDue}
 use Rattle.moves.proofs.tables_due.Statement.{statement}
 use Rattle.moves.proofs.tables_due.Tie as tie
 
 returns : tie.Need-returns
-unfolding firstRefusal
+unfolding tablesDue firstRefusal
 returns c =
-    let r = c .before .before .before .before in
-    rw (← r .before .check .ensures, ← r .refusal .ensures, c .before .before .enum-told .given .1) (rw (← c .before .check2 .ensures) (c .refusal2 .ensures))
-
-returns-2 : tie.Need-returns-2
-unfolding firstRefusal
-returns-2 c =
-    let r = c .before .before in
-    rw (← r .before .check .ensures, ← r .refusal .ensures, c .enum-told2 .given .1)
+    let source = c .before .before .before in
+    let target = source .before .before in
+    let second = target .before .before in
+    let first = second .before .before in
+    rw (
+      c .first-of3 .ensures,
+      c .before .first-of2 .ensures,
+      c .before .before .first-of .ensures,
+      source .twins-refusal2 .ensures,
+      source .before .find-twins2 .ensures,
+      target .twins-refusal .ensures,
+      target .before .find-twins .ensures,
+      second .refusal2 .ensures,
+      second .before .check2 .ensures,
+      first .refusal .ensures,
+      first .before .check .ensures,
+    )
+    refl
 
 pub tables-due-spec : {M : Type 1} → statement M
 tables-due-spec =
@@ -22,9 +34,13 @@ tables-due-spec =
     (tie.spec
     (λ c κs. search needs)
     (λ c κs. search needs)
-    (λ c. search needs)
     (λ c κs. search needs)
     (λ c κs. search needs)
-    (λ c. search needs)
-    returns
-    returns-2)
+    (λ c κs. search needs)
+    (λ c κs. search needs)
+    (λ c κs. search needs)
+    (λ c κs. search needs)
+    (λ c κs. search needs)
+    (λ c κs. search needs)
+    (λ c κs. search needs)
+    returns)

@@ -1,0 +1,26 @@
+-- `respell::put_spelled` meets its contract: profile by profile.
+use borrow.Author.Needs.{needs}
+use Rattle.respell.specs.Respell.{respelled}
+use Rattle.respell.proofs.put_spelled.Statement.{statement}
+use Rattle.respell.proofs.put_spelled.Tie as tie
+
+returns : tie.Need-returns
+unfolding respelled
+returns c = rw (c .before .before .before .before .enum-told .given .1) (c .before .before .copy-words .ensures .1)
+
+returns-2 : tie.Need-returns-2
+unfolding respelled
+returns-2 c = rw (c .before .before .before .before .enum-told2 .given .1) (c .before .before .spell-rows .ensures)
+
+pub put-spelled-spec : {M : Type 1} → statement M
+put-spelled-spec =
+    tie.close
+    (tie.spec
+    (λ c. search needs)
+    (λ c κs. search needs)
+    (λ c. search needs)
+    (λ c κs. search needs)
+    (λ c. search needs)
+    returns
+    (λ c. search needs)
+    returns-2)
