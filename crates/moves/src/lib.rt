@@ -1,13 +1,14 @@
 // One move carried out: a table, with its subtree at a path become another table's. Names are matched by a key.
+mod paths;
+
 use find::Found;
 use rules::Answer;
 use tree::Profile;
 ghost use mathlib.Core.Path.{_≡_};
-ghost use mathlib.Core.List.{_∷_, [], _++_, map};
+ghost use mathlib.Core.List.{_++_};
 ghost use Prim.Native.Nat.{_+_, _*_, _≤_};
 ghost use lib.ListN.{length, take, drop};
 ghost use Rattle.tree.specs.declared.Profile.the-variants.{Exact, Folded};
-ghost use Rattle.tree.specs.Key.{key};
 ghost use Rattle.row.specs.Buffer.{over};
 ghost use Rattle.row.specs.Tree.{treeOf};
 ghost use Rattle.rules.specs.Keyed.{Passes};
@@ -15,53 +16,14 @@ ghost use Rattle.find.specs.Entry.{Finds};
 ghost use Rattle.follow.specs.Follow.{follow};
 ghost use Rattle.stands.specs.Around.{entryEnd};
 ghost use Rattle.respell.specs.Respell.{respelled};
-ghost use Rattle.moves.specs.Path.{parentOf, pathOf, slots, pathRule};
+ghost use Rattle.moves.specs.Path.{parentOf, pathOf};
 ghost use Rattle.moves.specs.Move.{MoveContract};
-ghost use Rattle.moves.specs.Pieces.{slotRule, folderAt, pieces, Ready, Spans, Inputs, Turn, Joins, tablesDue, inputsDue, PutIn, CarriedOut};
+ghost use Rattle.moves.specs.Pieces.{folderAt, pieces, Ready, Spans, Inputs, Turn, Joins, tablesDue, inputsDue, PutIn, CarriedOut};
 
 // Words of a table, from one place to another.
 pub struct Span {
     pub from: usize,
     pub to: usize,
-}
-
-// Whether a name slot is as it must be, within the path's depth or past it.
-fn slot_ok(name: [u32; 8], within: bool) -> bool
-    ensures { λ r. ⌜ r ≡ slotRule within name ⌝ }
-{
-    if within {
-        return rules::good_name(&name);
-    }
-    rules::all_zero(&name)
-}
-
-// Whether no name slot is bad.
-fn slots_ok(names: [[u32; 8]; 16], depth: usize) -> bool
-    ensures { λ r. ⌜ r ≡ slots depth names ⌝ }
-{
-    let mut i = 0;
-    while i < 16 {
-        let name = names[i];
-        if slot_ok(name, i < depth) {
-            i += 1;
-        } else {
-            return false;
-        }
-    }
-    true
-}
-
-// Whether a path has a depth of 1 to 16 and no bad slot.
-fn path_ok(names: [[u32; 8]; 16], depth: usize) -> bool
-    ensures { λ r. ⌜ r ≡ pathRule names depth ⌝ }
-{
-    if depth < 1 {
-        return false;
-    }
-    if 16 < depth {
-        return false;
-    }
-    slots_ok(names, depth)
 }
 
 // The answer that the tables are due: numbers 1 and 2 of each, then 16.
@@ -86,21 +48,10 @@ fn inputs_due(
     ensures { λ r. ⌜ r ≡ inputsDue profile (now (target .entry)) (now (source .entry)) names depth ⌝ }
 {
     let tables = tables_due(profile, target, source);
-    rules::first_of(tables, rules::unless_refused(path_ok(names, depth), 5, 0))
-}
-
-// The keys of a path's names.
-fn key_names(names: [[u32; 8]; 16]) -> [[u32; 8]; 16]
-    ensures { λ r. ⌜ r ≡ map (key Folded) names ⌝ }
-{
-    let mut keys = names;
-    let mut i = 0;
-    while i < 16 {
-        let name = names[i];
-        keys[i] = row::key_name(Profile::Folded, name);
-        i += 1;
-    }
-    keys
+    rules::first_of(
+        tables,
+        rules::unless_refused(paths::path_ok(names, depth), 5, 0),
+    )
 }
 
 // The row of the path's parent, where that is a folder.
@@ -274,7 +225,15 @@ fn carry_out(
             let span = span_at(source, names, depth);
             carry_in(profile, target, target, source, span, names, depth, result)
         }
-        Profile::Folded => carry_folded(1, target, target, source, key_names(names), depth, result),
+        Profile::Folded => carry_folded(
+            1,
+            target,
+            target,
+            source,
+            paths::key_names(names),
+            depth,
+            result,
+        ),
     }
 }
 

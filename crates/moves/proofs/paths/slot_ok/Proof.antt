@@ -1,7 +1,7 @@
 -- `moves::slot_ok` meets its contract: a good name within the depth, zeros past it.
 use borrow.Author.Needs.{needs}
-use Rattle.moves.proofs.slot_ok.Statement.{statement}
-use Rattle.moves.proofs.slot_ok.Tie as tie
+use Rattle.moves.proofs.paths.slot_ok.Statement.{statement}
+use Rattle.moves.proofs.paths.slot_ok.Tie as tie
 
 returns : tie.Need-returns
 returns c = rw (c .before .before .if1 .taken) (c .good-name .ensures)

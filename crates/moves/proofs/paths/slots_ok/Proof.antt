@@ -7,8 +7,8 @@ use Prim.Native.Nat.{_-_, _≤_}
 use borrow.Author.Needs.{needs}
 use Rattle.moves.specs.Path.{slots}
 use Rattle.moves.proofs.Slots.{slots-end, slots-next, slots-bad}
-use Rattle.moves.proofs.slots_ok.Statement.{statement}
-use Rattle.moves.proofs.slots_ok.Tie as tie
+use Rattle.moves.proofs.paths.slots_ok.Statement.{statement}
+use Rattle.moves.proofs.paths.slots_ok.Tie as tie
 
 abbrev Inv-loop : tie.InvT-loop
 Inv-loop depth names i₀ i = (i ≤ 16) × (length names ≡ 16) × (slots depth names ≡ slots (depth - i) (drop i names))

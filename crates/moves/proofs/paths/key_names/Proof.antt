@@ -10,8 +10,8 @@ use borrow.Author.Needs.{needs}
 use Rattle.tree.specs.declared.Profile.the-variants.{Folded}
 use Rattle.tree.specs.Key.{key}
 use Rattle.moves.proofs.Names.{all-keys}
-use Rattle.moves.proofs.key_names.Statement.{statement}
-use Rattle.moves.proofs.key_names.Tie as tie
+use Rattle.moves.proofs.paths.key_names.Statement.{statement}
+use Rattle.moves.proofs.paths.key_names.Tie as tie
 
 abbrev Inv-loop : tie.InvT-loop
 Inv-loop names keys₀ i₀ keys i = (i ≤ 16) × (length names ≡ 16) × (length keys ≡ 16) × ((k : ℕ) → k < i → getD keys k [] ≡ key Folded (getD names k []))

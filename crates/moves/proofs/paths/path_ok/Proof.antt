@@ -2,8 +2,8 @@
 use borrow.Author.Tests.{le-leb, lt-leb}
 use borrow.Author.Needs.{needs}
 use Rattle.moves.specs.Path.{pathRule}
-use Rattle.moves.proofs.path_ok.Statement.{statement}
-use Rattle.moves.proofs.path_ok.Tie as tie
+use Rattle.moves.proofs.paths.path_ok.Statement.{statement}
+use Rattle.moves.proofs.paths.path_ok.Tie as tie
 
 returns : tie.Need-returns
 unfolding pathRule
