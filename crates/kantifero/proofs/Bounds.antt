@@ -68,14 +68,18 @@ unfolding firstRefusal
 first-place n (Accepted q) xs last h k = k refl
 first-place n (Refused m s q) xs last h k = h
 
+pub last-place : (n : ℕ) (a last : Answer) → placeOf a ≤ n → (isAccepted a ≡ true → placeOf last ≤ n) → placeOf (firstRefusal (a ∷ []) last) ≤ n
+unfolding firstRefusal
+last-place n a last h k = first-place n a [] last h k
+
 pub check-place : (p : Profile) (w : List ℕ) → placeOf (checkDue p w) ≤ 4096
-unfolding checkDue firstRefusal
-check-place p w = first-place 4096 (refusalOf (checkedIn p w) 1) [] _ (refusal-place p w 1) (λ h. twins-place p w 1 h)
+unfolding checkDue
+check-place p w = last-place 4096 (refusalOf (checkedIn p w) 1) _ (refusal-place p w 1) (λ h. twins-place p w 1 h)
 
 -- a move's: a row, or the rows of the result
 module _ (p : Profile) (target source : List ℕ) (names : List Name) (depth : ℕ) (lent : List ℕ) where
   pub move-place : placeOf (moveDue p target source names depth lent) ≤ 4096
-  unfolding moveDue firstRefusal
+  unfolding moveDue
   move-place =
       let n = length (movedWords p target source names depth) / 20 in
       first-place 4096 (refusalOf (checkedIn p target) 2) _ _ (refusal-place p target 2)
@@ -90,13 +94,13 @@ module _ (p : Profile) (target source : List ℕ) (names : List Name) (depth : �
       (λ c.
       first-place 4096 (unless (parentRule p target names depth) 4 0) _ _ (unless-place (parentRule p target names depth) 4 0)
       (λ d.
-      first-place 4096 (unless (roomRule n (length lent)) 3 2) [] (Accepted n) (unless-place (roomRule n (length lent)) 3 2)
+      last-place 4096 (unless (roomRule n (length lent)) 3 2) (Accepted n) (unless-place (roomRule n (length lent)) 3 2)
       (λ e. room-parts n (length lent) (unless-true (roomRule n (length lent)) 3 2 e) .0)))))))
 
 -- a writing's: a row, or the bytes of the text
 pub write-place : (p : Profile) (w : List ℕ) (room : ℕ) → placeOf (answerDue p w room) ≤ 65536
-unfolding answerDue fits firstRefusal
-write-place p w room = first-place 65536 (checkDue p w) [] _ (omega (arith, check-place p w)) (λ h. text (fits (length (textOf (treeOf w))) room) refl)
+unfolding answerDue fits
+write-place p w room = last-place 65536 (checkDue p w) _ (omega (arith, check-place p w)) (λ h. text (fits (length (textOf (treeOf w))) room) refl)
   where
     text : (b : Bool) → fits (length (textOf (treeOf w))) room ≡ b → placeOf (cond b (Accepted (length (textOf (treeOf w)))) (Refused 3 1 0)) ≤ 65536
     text true e =

@@ -1,6 +1,6 @@
 -- A reconciliation's place and counts have 32 bits: a row, at most 4,096 rows, at most 12,285 list entries.
 use mathlib.Core.Path.{_≡_, refl}
-use mathlib.Core.List.{List, []}
+use mathlib.Core.List.{List}
 use mathlib.Core.Bool.{true}
 use native.Mathlib.Omega.{arith}
 use lib.Dec.{leb}
@@ -18,7 +18,7 @@ use Rattle.rules.specs.declared.Answer.the-variants.{Accepted, Refused}
 use Rattle.rules.specs.Answer.{placeOf, isAccepted}
 use Rattle.rules.specs.Refusal.{refusalOf, twinsDue}
 use Rattle.rules.specs.Keyed.{checkedIn, twins, Passes}
-use Rattle.rules.specs.Faults.{firstRefusal, unless, roomRule}
+use Rattle.rules.specs.Faults.{unless, roomRule}
 use Rattle.rules.proofs.Small.{small-all}
 use Rattle.rules.proofs.Passed.{passed-formed, passed-most}
 use Rattle.plan.proofs.Bound.{lines-bound}
@@ -26,32 +26,32 @@ use Rattle.reconcile.specs.Answer.{answerWith}
 use Rattle.reconcile.specs.Run.{given, Lent, countsOf, twinsOf, tablesDue, roomsDue, runDue, runOf}
 use Rattle.reconcile.proofs.Accepted.{Passed, passed}
 use Rattle.kantifero.specs.Words.{Narrow}
-use Rattle.kantifero.proofs.Bounds.{refusal-place, twins-place, unless-place, first-place}
+use Rattle.kantifero.proofs.Bounds.{refusal-place, twins-place, unless-place, first-place, last-place}
 
 module _ (p : Profile) (o l r : List ℕ) (b : Lent) where
   tables-place : placeOf (tablesDue p o l r) ≤ 4096
-  unfolding tablesDue twinsOf firstRefusal
+  unfolding tablesDue twinsOf
   tables-place =
       first-place 4096 (refusalOf (checkedIn p o) 1) _ _ (refusal-place p o 1)
       (λ x.
       first-place 4096 (refusalOf (checkedIn p l) 2) _ _ (refusal-place p l 2)
       (λ y.
-      first-place 4096 (refusalOf (checkedIn p r) 3) [] _ (refusal-place p r 3)
+      last-place 4096 (refusalOf (checkedIn p r) 3) _ (refusal-place p r 3)
       (λ z.
       first-place 4096 (twinsDue (twins p o) 1) _ _ (twins-place p o 1 x)
-      (λ u. first-place 4096 (twinsDue (twins p l) 2) [] _ (twins-place p l 2 y) (λ v. twins-place p r 3 z)))))
+      (λ u. last-place 4096 (twinsDue (twins p l) 2) _ (twins-place p l 2 y) (λ v. twins-place p r 3 z)))))
 
   run-place : placeOf (runDue p o l r b) ≤ 4096
-  unfolding runDue roomsDue firstRefusal
+  unfolding runDue roomsDue
   run-place =
       let n = countsOf (given p o l r) in
-      first-place 4096 (tablesDue p o l r) [] _ tables-place
+      last-place 4096 (tablesDue p o l r) _ tables-place
       (λ t.
       first-place 4096 (unless (roomRule (n .archive) (length (b .archive))) 3 1) _ _ (unless-place (roomRule (n .archive) (length (b .archive))) 3 1)
       (λ x.
       first-place 4096 (unless (roomRule (n .left) (length (b .left))) 3 2) _ _ (unless-place (roomRule (n .left) (length (b .left))) 3 2)
       (λ y.
-      first-place 4096 (unless (roomRule (n .right) (length (b .right))) 3 3) [] _ (unless-place (roomRule (n .right) (length (b .right))) 3 3)
+      last-place 4096 (unless (roomRule (n .right) (length (b .right))) 3 3) _ (unless-place (roomRule (n .right) (length (b .right))) 3 3)
       (λ z. unless-place (leb (n .list) (length (b .list) / 3)) 3 4))))
 
   module _ (so : (k : ℕ) → Fits w32 (getD o k 0)) (sl : (k : ℕ) → Fits w32 (getD l k 0)) (sr : (k : ℕ) → Fits w32 (getD r k 0)) where

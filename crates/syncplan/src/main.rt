@@ -34,23 +34,23 @@ fn page() -> [u8; 1048576]
 }
 
 // What the program is asked for: a plan, or something that it doesn't know.
-enum Asked {
+enum Wish {
     Plan(Profile),
     Other,
 }
 
 // The argument, where there is one.
-fn asked() -> Asked {
+fn asked() -> Wish {
     let n = os::arg_count();
     if n < 2 {
-        return Asked::Plan(Profile::Exact);
+        return Wish::Plan(Profile::Exact);
     }
     let mut word = [0u8; 16];
     let e = os::arg(1, &mut word);
     if n == 2 && scan::same_bytes(&word[..e], b"--ignore-case") {
-        return Asked::Plan(Profile::Folded);
+        return Wish::Plan(Profile::Folded);
     }
-    Asked::Other
+    Wish::Other
 }
 
 // The plan of the three listings.
@@ -68,8 +68,8 @@ fn print(profile: Profile) {
 
 fn main() {
     match asked() {
-        Asked::Plan(profile) => print(profile),
-        Asked::Other => {
+        Wish::Plan(profile) => print(profile),
+        Wish::Other => {
             io::write_all(STDERR_FILENO, b"usage: syncplan [--ignore-case]\n");
         }
     }

@@ -9,9 +9,9 @@ part-words-requires c κs = rw (c .carried .ensures) (carried-within _ _ _ _ _ _
 
 returns : tie.Need-returns
 returns c =
-    let s = c .before .before .before .before .args in
+    let s = c .before .before .before .before .before .args in
     let e = rw (c .before .carried .ensures) at (c .part-words .ensures) in
-    record { answered = e; part = rw e (carried-part _ (s .left .now) (s .right .now) (s .kind) (s .left-row) (s .right-row)) }
+    rw (← c .before .before .profile-of .ensures) (record { answered = e; part = rw e (carried-part _ (s .left .now) (s .right .now) (s .kind) (s .left-row) (s .right-row)) })
 
 pub kantifero-carried-spec : {M : Type 1} → statement M
 kantifero-carried-spec = tie.close (tie.spec (λ c κs. search needs) (λ c κs. search needs) part-words-requires returns)

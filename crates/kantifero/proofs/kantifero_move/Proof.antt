@@ -9,8 +9,8 @@ use Rattle.kantifero.proofs.kantifero_move.Tie as tie
 
 answer-words-requires : tie.Need-answer-words-requires
 answer-words-requires c κs =
-    let a = c .before .before .before .before .before .before .before .before .args in
-    omega (arith, c .before .before .make-move .ensures .says .place-due, move-place _ (a .target .now) (a .source .now) (a .names .now) (a .depth) (a .result .now))
+    let a = c .before .before .before .before .before .before .before .before .before .args in
+    omega (arith, c .before .before .make-move .ensures .says .place-due, move-place (c .before .before .before .before .profile-of .result) (a .target .now) (a .source .now) (a .names .now) (a .depth) (a .result .now))
 
 returns : tie.Need-returns
 returns c =

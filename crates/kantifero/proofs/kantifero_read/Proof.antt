@@ -10,13 +10,13 @@ use Rattle.kantifero.proofs.kantifero_read.Tie as tie
 
 answer-words-requires : tie.Need-answer-words-requires
 answer-words-requires c κs =
-    let a = c .before .before .before .before .before .before .args in
-    omega (arith, c .before .before .read .ensures .says .place-due, read-place _ (a .text .now) (length (a .table .now)))
+    let a = c .before .before .before .before .before .before .before .args in
+    omega (arith, c .before .before .read .ensures .says .place-due, read-place (c .before .before .before .before .profile-of .result) (a .text .now) (length (a .table .now)))
 
 returns : tie.Need-returns
 returns c =
     let w = c .before .before .before .read in
-    record { answered = c .answer-words .ensures ∙ says-words (w .result) _ _ _ (w .ensures .says); table = w .ensures .table }
+    rw (← c .before .before .before .before .before .profile-of .ensures) (record { answered = c .answer-words .ensures ∙ says-words (w .result) _ _ _ (w .ensures .says); table = w .ensures .table })
 
 pub kantifero-read-spec : {M : Type 1} → statement M
 kantifero-read-spec =

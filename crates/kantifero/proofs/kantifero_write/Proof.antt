@@ -10,13 +10,13 @@ use Rattle.kantifero.proofs.kantifero_write.Tie as tie
 
 answer-words-requires : tie.Need-answer-words-requires
 answer-words-requires c κs =
-    let a = c .before .before .before .before .before .before .args in
-    omega (arith, c .before .before .write .ensures .says .place-due, write-place _ (a .table .now) (length (a .text .now)))
+    let a = c .before .before .before .before .before .before .before .args in
+    omega (arith, c .before .before .write .ensures .says .place-due, write-place (c .before .before .before .before .profile-of .result) (a .table .now) (length (a .text .now)))
 
 returns : tie.Need-returns
 returns c =
     let w = c .before .before .before .write in
-    record { answered = c .answer-words .ensures ∙ says-words (w .result) _ _ _ (w .ensures .says); written = w .ensures .written }
+    rw (← c .before .before .before .before .before .profile-of .ensures) (record { answered = c .answer-words .ensures ∙ says-words (w .result) _ _ _ (w .ensures .says); written = w .ensures .written })
 
 pub kantifero-write-spec : {M : Type 1} → statement M
 kantifero-write-spec =
