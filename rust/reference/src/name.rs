@@ -1,6 +1,7 @@
 //! Names, and how they are matched.
 
 use std::cmp::Ordering;
+use std::rc::Rc;
 
 /// How names are matched, and siblings ordered.
 #[derive(Clone, Copy, Debug, PartialEq, Eq, Hash)]
@@ -21,13 +22,12 @@ impl Profile {
             65..=90 => byte + 32,
             _ => byte,
         };
-        Name {
-            key: match self {
-                Profile::Exact => spelled.to_vec(),
-                Profile::Folded => spelled.iter().map(fold).collect(),
-            },
-            spelled: spelled.to_vec(),
-        }
+        let spelled: Rc<[u8]> = spelled.into();
+        let key = match self {
+            Profile::Exact => spelled.clone(),
+            Profile::Folded => spelled.iter().map(fold).collect(),
+        };
+        Name { key, spelled }
     }
 
     /// The path of the names that are spelled so.
@@ -41,8 +41,8 @@ impl Profile {
 /// makes no difference.
 #[derive(Clone, Debug)]
 pub struct Name {
-    key: Vec<u8>,
-    spelled: Vec<u8>,
+    key: Rc<[u8]>,
+    spelled: Rc<[u8]>,
 }
 
 impl Name {

@@ -2,17 +2,18 @@
 
 use reference::generate::{self, Random, Three};
 use reference::{
-    carried, check, make_move, path_of, reconcile, slots, table, Node, Outcome, Path, Profile,
-    Rooms, CLASH, LEFT, LEFT_GETS, MOST_ROWS, NO_ROW, PROFILES, RIGHT_GETS, ROW,
+    carried, check, make_move, reconcile, slots, table, Node, Outcome, Path, Profile, Rooms, CLASH,
+    LEFT, LEFT_GETS, MOST_ROWS, NO_ROW, PROFILES, RIGHT_GETS, ROW,
 };
 
 const AMPLE: usize = MOST_ROWS * ROW;
 
 /// The list's kinds and paths.
 fn listed(profile: Profile, outcome: &Outcome, left: &[u32], right: &[u32]) -> Vec<(u32, Path)> {
+    let [left, right] = [left, right].map(|table| check(profile, table).unwrap().paths());
     let path = |entry: &[u32; 3]| match entry[1] {
-        NO_ROW => path_of(profile, right, entry[2]),
-        row => path_of(profile, left, row),
+        NO_ROW => right[entry[2] as usize].clone(),
+        row => left[row as usize].clone(),
     };
     outcome
         .list
