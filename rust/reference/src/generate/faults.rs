@@ -158,7 +158,8 @@ fn bad_name(rng: &mut Random) -> Vec<u8> {
         _ => rng.pick(&bad).to_vec(),
     };
     let mut rest = extra(rng);
-    if rng.one_in(2) {
+    // A backslash at the line's end would join the next line.
+    if rng.one_in(2) || name.ends_with(b"\\") {
         rest.push(type_word(rng.one_in(2)));
     }
     spaced(rng, 6, &name, &rest)
