@@ -60,12 +60,13 @@ fn carry_out(case: &mut Case, kind: u32, path: &Path, sides: &mut [Vec<u32>; 2])
 
 /// The trees must be equal in the profile, and more than is asked, their tables to the byte.
 fn same_trees(case: &Case, now: &Run, then: &Run) {
-    let trees = |run: &Run| {
-        let tree = |table: &Vec<u32>| check(case.profile, table);
-        run.trees.each_ref().map(tree)
-    };
-    case.same("the trees", &trees(now), &trees(then));
-    case.same("the trees' words", &now.trees, &then.trees);
+    for (side, name) in ["new archive", "new left", "new right"].iter().enumerate() {
+        let (now, then) = (&now.trees[side], &then.trees[side]);
+        if check(case.profile, now) != check(case.profile, then) {
+            case.fail(&format!("the {name} is another tree"));
+        }
+        case.same(&format!("the {name}'s words"), now, then);
+    }
 }
 
 /// Some moves in any order, a run on what they leave, and a run on the results.

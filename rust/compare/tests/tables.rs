@@ -33,6 +33,36 @@ fn good_pair(case: &mut Case, most: usize) -> [Vec<u32>; 2] {
     [left, right]
 }
 
+/// What each damaged table must have come to in either profile, and where letter case is ignored.
+const BROKEN: [(&str, u64); 15] = [
+    ("check 1", 1_000),
+    ("check 2", 2_500),
+    ("reconcile 1 side 1", 500),
+    ("reconcile 1 side 2", 500),
+    ("reconcile 1 side 3", 500),
+    ("reconcile 2 side 1", 1_500),
+    ("reconcile 2 side 2", 1_500),
+    ("reconcile 2 side 3", 1_500),
+    ("move 1 side 2", 500),
+    ("move 1 side 3", 500),
+    ("move 2 side 2", 1_500),
+    ("move 2 side 3", 1_500),
+    ("write 1", 500),
+    ("write 2", 1_500),
+    ("carried from 0", 5_000),
+];
+const TWINS: [(&str, u64); 9] = [
+    ("check 16 side 1", 300),
+    ("reconcile 16 side 1", 300),
+    ("reconcile 16 side 2", 300),
+    ("reconcile 16 side 3", 300),
+    ("move 16 side 2", 300),
+    ("move 16 side 3", 300),
+    ("write 16 side 1", 300),
+    ("carried none for 16 side 2", 50),
+    ("carried none for 16 side 3", 50),
+];
+
 #[test]
 fn every_rule_broken() {
     let mut tried = Tried::new("every rule broken");
@@ -52,37 +82,8 @@ fn every_rule_broken() {
     }
     let broken = DAMAGES.map(|damage| format!("{damage:?}"));
     let mut least: Vec<_> = broken.iter().map(|damage| (damage.as_str(), 150)).collect();
-    least.extend([
-        ("check 1", 1_000),
-        ("check 2", 2_500),
-        ("reconcile 1 side 1", 500),
-        ("reconcile 1 side 2", 500),
-        ("reconcile 1 side 3", 500),
-        ("reconcile 2 side 1", 1_500),
-        ("reconcile 2 side 2", 1_500),
-        ("reconcile 2 side 3", 1_500),
-        ("move 1 side 2", 500),
-        ("move 1 side 3", 500),
-        ("move 2 side 2", 1_500),
-        ("move 2 side 3", 1_500),
-        ("write 1", 500),
-        ("write 2", 1_500),
-        ("carried from 0", 5_000),
-    ]);
-    tried.end(
-        &least,
-        &[
-            ("check 16 side 1", 300),
-            ("reconcile 16 side 1", 300),
-            ("reconcile 16 side 2", 300),
-            ("reconcile 16 side 3", 300),
-            ("move 16 side 2", 300),
-            ("move 16 side 3", 300),
-            ("write 16 side 1", 300),
-            ("carried none for 16 side 2", 50),
-            ("carried none for 16 side 3", 50),
-        ],
-    );
+    least.extend(BROKEN);
+    tried.end(&least, &TWINS);
 }
 
 /// The table with twins at times, and at times with another rule broken too.
@@ -109,6 +110,27 @@ fn saw_order(case: &mut Case, tables: &[Vec<u32>; 3]) {
     }
 }
 
+/// What faults must have been told in either profile, and where letter case is ignored.
+const FAULTS: [(&str, u64); 8] = [
+    ("reconcile", 3_000),
+    ("reconcile 2 side 1", 500),
+    ("reconcile 2 side 3", 150),
+    ("reconcile 3 side 1", 50),
+    ("move 2 side 2", 500),
+    ("move 3", 50),
+    ("move 5", 25),
+    ("write 3", 250),
+];
+const FOLDED_FAULTS: [(&str, u64); 7] = [
+    ("reconcile 16 side 1", 100),
+    ("reconcile 16 side 2", 100),
+    ("reconcile 16 side 3", 50),
+    ("move 16 side 2", 100),
+    ("move 16 side 3", 100),
+    ("write 16 side 1", 100),
+    ("twins before another fault", 100),
+];
+
 /// Two damaged tables, too little room and a bad path at once: which fault is told.
 #[test]
 fn several_faults_at_once() {
@@ -134,27 +156,7 @@ fn several_faults_at_once() {
         both::make_move(case, left, right, (&names, depth), rooms.left);
         both::write(case, archive, rooms.archive);
     });
-    tried.end(
-        &[
-            ("reconcile", 3_000),
-            ("reconcile 2 side 1", 500),
-            ("reconcile 2 side 3", 150),
-            ("reconcile 3 side 1", 50),
-            ("move 2 side 2", 500),
-            ("move 3", 50),
-            ("move 5", 25),
-            ("write 3", 250),
-        ],
-        &[
-            ("reconcile 16 side 1", 100),
-            ("reconcile 16 side 2", 100),
-            ("reconcile 16 side 3", 50),
-            ("move 16 side 2", 100),
-            ("move 16 side 3", 100),
-            ("write 16 side 1", 100),
-            ("twins before another fault", 100),
-        ],
-    );
+    tried.end(&FAULTS, &FOLDED_FAULTS);
 }
 
 /// One word changed: many of these tables are still good, and are then reconciled and moved.
@@ -181,29 +183,34 @@ fn one_word_changed() {
     );
 }
 
-/// Tables of one profile in the calls of the other: out of order, with twins, or good in both.
+/// Tables of either profile in the calls of either: out of order, with twins, or good in both.
 #[test]
-fn tables_of_the_other_profile() {
-    let mut tried = Tried::new("tables of the other profile");
-    tried.cases(2_400_000, 3_000, |case| {
-        let other = PROFILES[1 - case.profile as usize];
+fn tables_of_either_profile() {
+    let mut tried = Tried::new("tables of either profile");
+    tried.cases(2_400_000, 4_000, |case| {
+        let made = case.rng.pick(&PROFILES);
         let size = generate::size(&mut case.rng).min(12);
-        let three = generate::three(&mut case.rng, other, size);
+        let three = generate::three(&mut case.rng, made, size);
         let [archive, left, right] = three.tables();
+        let [exact, folded] = PROFILES.map(|profile| reference::check(profile, &left).err());
+        match (exact, folded) {
+            (None, Some(no)) if no.number == 16 => case.saw("twins by key alone"),
+            (None, None) => case.saw("good in both"),
+            _ => case.saw("out of order in one of them"),
+        }
         every_call(case, &archive, &left);
-        let (names, depth) = generate::path(&mut case.rng, other, &three.left, &three.right);
-        both::make_move(
-            case,
-            &left,
-            &right,
-            (&names, depth),
-            left.len() + right.len(),
-        );
+        let (names, depth) = generate::path(&mut case.rng, made, &three.left, &three.right);
+        let room = left.len() + right.len();
+        both::make_move(case, &left, &right, (&names, depth), room);
     });
-    tried.end(
-        &[("check 0", 500), ("check 2", 100), ("move 0", 500)],
-        &[("check 16 side 1", 20)],
-    );
+    let came = [
+        "twins by key alone",
+        "good in both",
+        "out of order in one of them",
+    ];
+    let mut least = came.map(|what| (what, 20)).to_vec();
+    least.extend([("check 0", 500), ("check 2", 200), ("move 0", 500)]);
+    tried.end(&least, &[("check 16 side 1", 20)]);
 }
 
 /// The last rows of tables of up to 4,096 rows, damaged or not.
