@@ -1,10 +1,15 @@
 //! The measured lines, as a table, and what they say about the goals.
 
+use reference::Profile;
+
+use crate::beside::Pair;
 use crate::timing::Time;
 
 /// One measured call.
 #[derive(Clone, Debug)]
 pub struct Line {
+    /// The profile of the call.
+    pub profile: Profile,
     /// The call.
     pub call: &'static str,
     /// The shape of its trees, and what else sets it apart.
@@ -37,13 +42,26 @@ impl Line {
     }
 
     fn named(&self) -> String {
-        format!("{} {} {}", self.call, self.shape, self.rows)
+        format!(
+            "{} {} {} {}",
+            in_words(self.profile),
+            self.call,
+            self.shape,
+            self.rows
+        )
+    }
+}
+
+fn in_words(profile: Profile) -> &'static str {
+    match profile {
+        Profile::Exact => "exact",
+        Profile::Folded => "folded",
     }
 }
 
 /// Prints the head of a table.
-pub fn head(title: &str) {
-    println!("\n### {title}\n");
+pub fn head(profile: Profile, title: &str) {
+    println!("\n### {title} ({})\n", in_words(profile));
     println!("| call | trees | rows | library us | reference us | copy us | reference / library | library / copy | ns a row |");
     println!("|---|---|--:|--:|--:|--:|--:|--:|--:|");
 }
@@ -86,16 +104,49 @@ fn goal<'a>(
 }
 
 /// Prints what the lines say about the goals.
-pub fn goals(lines: &[Line]) {
+pub fn goals(lines: &[Line], pairs: &[Pair]) {
     println!("\n### Goals\n");
-    let small = |a: f64, b: f64| a < b;
-    let large = |a: f64, b: f64| a > b;
     goal(
         "no call is slower than the reference (reference / library at least 1)",
         |ratio| ratio >= 1.0,
         lines.iter().map(|line| (line.named(), line.faster())),
         small,
     );
+    reconciling(lines);
+    growing(lines);
+    goal(
+        "letter case ignored, reconcile of the same tables takes at most 1.6 times as long",
+        |ratio| ratio <= 1.6,
+        pairs
+            .iter()
+            .map(|pair| (pair.shape.clone(), pair.same_tables())),
+        large,
+    );
+    goal(
+        "and of tables in spellings of their own too",
+        |ratio| ratio <= 1.6,
+        pairs
+            .iter()
+            .map(|pair| (pair.shape.clone(), pair.own_spellings())),
+        large,
+    );
+    let spreads = lines.iter().map(|line| line.library.spread);
+    println!(
+        "\nThe library's quartiles are at most {:.0} % of the median apart.",
+        100.0 * spreads.fold(0.0, f64::max)
+    );
+}
+
+fn small(one: f64, other: f64) -> bool {
+    one < other
+}
+
+fn large(one: f64, other: f64) -> bool {
+    one > other
+}
+
+/// The goals for reconciling the largest trees.
+fn reconciling(lines: &[Line]) {
     let reconciled = || {
         lines
             .iter()
@@ -108,15 +159,22 @@ pub fn goals(lines: &[Line]) {
         small,
     );
     goal(
-        "it takes at most four times a copy",
+        "where every byte counts it takes at most four times a copy",
         |ratio| ratio <= 4.0,
-        reconciled().map(|line| (line.named(), line.copies())),
+        reconciled()
+            .filter(|line| line.profile == Profile::Exact)
+            .map(|line| (line.named(), line.copies())),
         large,
     );
+}
+
+/// The goal for what a row costs in a large tree.
+fn growing(lines: &[Line]) {
     let grown = lines.iter().filter(|line| line.rows == 4096);
     let growth = grown.filter_map(|line| {
         let small = lines.iter().find(|other| {
-            (other.call, &other.shape, other.rows) == (line.call, &line.shape, 256)
+            (other.profile, other.call, &other.shape, other.rows)
+                == (line.profile, line.call, &line.shape, 256)
         })?;
         Some((line.named(), line.per_row() / small.per_row()))
     });
@@ -125,13 +183,5 @@ pub fn goals(lines: &[Line]) {
         |ratio| ratio <= 1.5,
         growth,
         large,
-    );
-    let spread = lines
-        .iter()
-        .map(|line| line.library.spread)
-        .fold(0.0, f64::max);
-    println!(
-        "\nThe library's quartiles are at most {:.0} % of the median apart.",
-        100.0 * spread
     );
 }

@@ -1,7 +1,8 @@
-//! One call of the library and the same one of the reference, compared in everything.
+//! One call of the library and the same one of the reference, compared in everything. Both are made in
+//! the profile of the case.
 
 use reference::lent::Buffers;
-use reference::{Answer, Rooms, Slots};
+use reference::{Answer, Rooms, Slots, LEFT, LEFT_GETS, RIGHT, RIGHT_GETS, ROW};
 
 use crate::calls::{self, Words};
 use crate::lent::Lent;
@@ -44,8 +45,8 @@ fn answered(case: &mut Case, call: &str, library: Words, reference: Words) {
 
 /// Checks a table; whether it keeps the rules.
 pub fn check(case: &mut Case, table: &[u32]) -> bool {
-    let library = calls::check(table);
-    let reference = words(&reference::check(table), |_| [0; 8]);
+    let library = calls::check(case.word(), table);
+    let reference = words(&reference::check(case.profile, table), |_| [0; 8]);
     answered(case, "check", library, reference);
     library[0] == 0
 }
@@ -61,9 +62,10 @@ pub fn reconcile(case: &mut Case, tables: [&[u32]; 3], rooms: Rooms) -> Option<R
         list: lent[3].inside().to_vec(),
         tally,
     };
-    let library = calls::reconcile(tables, lent.each_mut().map(Lent::room), &mut tally);
+    let rooms = lent.each_mut().map(Lent::room);
+    let library = calls::reconcile(case.word(), tables, rooms, &mut tally);
     let [archive, left, right] = tables;
-    let due = reference::lent::reconcile(archive, left, right, &mut theirs);
+    let due = reference::lent::reconcile(case.profile, archive, left, right, &mut theirs);
     let due = words(&due, |[o, l, r, list]| [0, 0, 0, *o, *l, *r, *list, 0]);
     answered(case, "reconcile", library, due);
     case.same_lent("new archive", &lent[0], &theirs.archive);
@@ -94,8 +96,8 @@ pub fn make_move(
 ) -> Option<Vec<u32>> {
     let mut lent = Lent::<u32>::new(room);
     let mut theirs = lent.inside().to_vec();
-    let library = calls::make_move(target, source, names, depth, lent.room());
-    let due = reference::lent::make_move(target, source, names, depth, &mut theirs);
+    let library = calls::make_move(case.word(), target, source, names, depth, lent.room());
+    let due = reference::lent::make_move(case.profile, target, source, names, depth, &mut theirs);
     answered(case, "move", library, words(&due, with_place));
     case.same_lent("result", &lent, &theirs);
     (library[0] == 0).then(|| lent.inside()[..20 * library[2] as usize].to_vec())
@@ -103,8 +105,8 @@ pub fn make_move(
 
 /// Asks for the rows that an entry carries.
 pub fn carried(case: &mut Case, left: &[u32], right: &[u32], entry: [u32; 3]) {
-    let library = calls::carried(left, right, entry);
-    let part = reference::carried(left, right, entry[0], entry[1], entry[2]);
+    let library = calls::carried(case.word(), left, right, entry);
+    let part = reference::carried(case.profile, left, right, entry[0], entry[1], entry[2]);
     let mut due = [0; 8];
     if let Some(part) = part {
         due[..3].copy_from_slice(&[part.side, part.start as u32, part.words as u32]);
@@ -112,14 +114,32 @@ pub fn carried(case: &mut Case, left: &[u32], right: &[u32], entry: [u32; 3]) {
     case.same("carried's answer", &library, &due);
     case.saw("carried");
     case.saw(&format!("carried from {}", library[0]));
+    if part.is_none() {
+        saw_twins(case, left, right, entry);
+    }
+}
+
+/// Counts an entry that would carry rows if no table were due 16.
+fn saw_twins(case: &mut Case, left: &[u32], right: &[u32], [kind, left_row, right_row]: [u32; 3]) {
+    let there = match kind {
+        LEFT_GETS => (right_row as usize) < right.len() / ROW,
+        RIGHT_GETS => (left_row as usize) < left.len() / ROW,
+        _ => false,
+    };
+    for (side, table) in [(LEFT, left), (RIGHT, right)] {
+        let no = reference::check(case.profile, table).err();
+        if there && no.is_some_and(|no| no.number == 16) {
+            case.saw(&format!("carried none for 16 side {side}"));
+        }
+    }
 }
 
 /// Writes a table into a room of so many bytes; the text.
 pub fn write(case: &mut Case, table: &[u32], room: usize) -> Option<Vec<u8>> {
     let mut lent = Lent::<u8>::new(room);
     let mut theirs = lent.inside().to_vec();
-    let library = calls::write(table, lent.room());
-    let due = reference::lent::write(table, &mut theirs);
+    let library = calls::write(case.word(), table, lent.room());
+    let due = reference::lent::write(case.profile, table, &mut theirs);
     answered(case, "write", library, words(&due, with_place));
     case.same_lent("text", &lent, &theirs);
     (library[0] == 0).then(|| lent.inside()[..library[2] as usize].to_vec())
@@ -129,8 +149,8 @@ pub fn write(case: &mut Case, table: &[u32], room: usize) -> Option<Vec<u8>> {
 pub fn read(case: &mut Case, text: &[u8], room: usize) -> Option<Vec<u32>> {
     let mut lent = Lent::<u32>::new(room);
     let mut theirs = lent.inside().to_vec();
-    let library = calls::read(text, lent.room());
-    let due = reference::lent::read(text, &mut theirs);
+    let library = calls::read(case.word(), text, lent.room());
+    let due = reference::lent::read(case.profile, text, &mut theirs);
     answered(case, "read", library, words(&due, with_place));
     case.same_lent("table", &lent, &theirs);
     (library[0] == 0).then(|| lent.inside()[..20 * library[2] as usize].to_vec())

@@ -1,5 +1,6 @@
 //! The calls as include/kantifero.h declares them, declared here a second time so that the answer's
-//! eight words can be looked at. Before a call they all hold [`UNWRITTEN`].
+//! eight words can be looked at. Before a call they all hold [`UNWRITTEN`]. The profile is a word of
+//! which any but 0 ignores letter case.
 
 // The archive is linked by this crate.
 use kantifero as _;
@@ -11,8 +12,9 @@ pub const UNWRITTEN: u32 = 0xC0FF_EE11;
 pub type Words = [u32; 8];
 
 extern "C" {
-    fn kantifero_check(table: *const u32, words: usize, answer: *mut u32);
+    fn kantifero_check(profile: u32, table: *const u32, words: usize, answer: *mut u32);
     fn kantifero_reconcile(
+        profile: u32,
         archive: *const u32,
         archive_words: usize,
         left: *const u32,
@@ -31,6 +33,7 @@ extern "C" {
         answer: *mut u32,
     );
     fn kantifero_move(
+        profile: u32,
         target: *const u32,
         target_words: usize,
         source: *const u32,
@@ -42,6 +45,7 @@ extern "C" {
         answer: *mut u32,
     );
     fn kantifero_carried(
+        profile: u32,
         left: *const u32,
         left_words: usize,
         right: *const u32,
@@ -52,6 +56,7 @@ extern "C" {
         answer: *mut u32,
     );
     fn kantifero_write(
+        profile: u32,
         table: *const u32,
         words: usize,
         text: *mut u8,
@@ -59,6 +64,7 @@ extern "C" {
         answer: *mut u32,
     );
     fn kantifero_read(
+        profile: u32,
         text: *const u8,
         bytes: usize,
         table: *mut u32,
@@ -71,19 +77,25 @@ extern "C" {
 // never null; what is written is borrowed mutably, so it overlaps nothing else.
 
 /// Checks a table.
-pub fn check(table: &[u32]) -> Words {
+pub fn check(profile: u32, table: &[u32]) -> Words {
     let mut answer = [UNWRITTEN; 8];
-    unsafe { kantifero_check(table.as_ptr(), table.len(), answer.as_mut_ptr()) };
+    unsafe { kantifero_check(profile, table.as_ptr(), table.len(), answer.as_mut_ptr()) };
     answer
 }
 
 /// Reconciles archive, left and right into the new archive, left, right and list.
-pub fn reconcile(tables: [&[u32]; 3], lent: [&mut [u32]; 4], tally: &mut [u32; 3]) -> Words {
+pub fn reconcile(
+    profile: u32,
+    tables: [&[u32]; 3],
+    lent: [&mut [u32]; 4],
+    tally: &mut [u32; 3],
+) -> Words {
     let [archive, left, right] = tables;
     let [new_archive, new_left, new_right, list] = lent;
     let mut answer = [UNWRITTEN; 8];
     unsafe {
         kantifero_reconcile(
+            profile,
             archive.as_ptr(),
             archive.len(),
             left.as_ptr(),
@@ -107,6 +119,7 @@ pub fn reconcile(tables: [&[u32]; 3], lent: [&mut [u32]; 4], tally: &mut [u32; 3
 
 /// Carries out one move.
 pub fn make_move(
+    profile: u32,
     target: &[u32],
     source: &[u32],
     names: &[[u32; 8]; 16],
@@ -116,6 +129,7 @@ pub fn make_move(
     let mut answer = [UNWRITTEN; 8];
     unsafe {
         kantifero_move(
+            profile,
             target.as_ptr(),
             target.len(),
             source.as_ptr(),
@@ -131,11 +145,12 @@ pub fn make_move(
 }
 
 /// Where the rows stand that an entry carries.
-pub fn carried(left: &[u32], right: &[u32], entry: [u32; 3]) -> Words {
+pub fn carried(profile: u32, left: &[u32], right: &[u32], entry: [u32; 3]) -> Words {
     let [kind, left_row, right_row] = entry;
     let mut answer = [UNWRITTEN; 8];
     unsafe {
         kantifero_carried(
+            profile,
             left.as_ptr(),
             left.len(),
             right.as_ptr(),
@@ -150,10 +165,11 @@ pub fn carried(left: &[u32], right: &[u32], entry: [u32; 3]) -> Words {
 }
 
 /// Writes a table as a listing.
-pub fn write(table: &[u32], text: &mut [u8]) -> Words {
+pub fn write(profile: u32, table: &[u32], text: &mut [u8]) -> Words {
     let mut answer = [UNWRITTEN; 8];
     unsafe {
         kantifero_write(
+            profile,
             table.as_ptr(),
             table.len(),
             text.as_mut_ptr(),
@@ -165,10 +181,11 @@ pub fn write(table: &[u32], text: &mut [u8]) -> Words {
 }
 
 /// Reads a listing into a table.
-pub fn read(text: &[u8], table: &mut [u32]) -> Words {
+pub fn read(profile: u32, text: &[u8], table: &mut [u32]) -> Words {
     let mut answer = [UNWRITTEN; 8];
     unsafe {
         kantifero_read(
+            profile,
             text.as_ptr(),
             text.len(),
             table.as_mut_ptr(),

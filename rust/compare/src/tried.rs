@@ -5,6 +5,7 @@ use std::fmt::Debug;
 use std::time::Instant;
 
 use reference::generate::Random;
+use reference::{Profile, PROFILES};
 
 use crate::lent::{Lent, Mark};
 
@@ -13,13 +14,15 @@ use crate::lent::{Lent, Mark};
 pub struct Tried {
     name: &'static str,
     began: Instant,
-    /// How often each thing came, calls and answers among them.
-    seen: BTreeMap<String, u64>,
+    /// How often each thing came in each profile, calls and answers among them.
+    seen: BTreeMap<String, [u64; 2]>,
 }
 
-/// One case: random inputs from a seed of its own.
+/// One case: random inputs of a profile from a seed of its own.
 #[derive(Debug)]
 pub struct Case<'a> {
+    /// The profile that its calls are made in.
+    pub profile: Profile,
     /// The case's random numbers.
     pub rng: Random,
     seed: u64,
@@ -36,11 +39,12 @@ impl Tried {
         }
     }
 
-    /// Runs so many cases, from the first seed on.
+    /// Runs so many cases, from the first seed on, in one profile and the other by turns.
     pub fn cases(&mut self, first: u64, count: u64, mut case: impl FnMut(&mut Case)) {
         for seed in first..first + count {
             let rng = Random::new(seed);
             case(&mut Case {
+                profile: PROFILES[(seed - first) as usize % 2],
                 rng,
                 seed,
                 tried: self,
@@ -48,35 +52,56 @@ impl Tried {
         }
     }
 
-    /// Ends the test: tells what came, and fails unless each of these came at least so often.
+    /// Ends the test: tells what came where case counts and where it is ignored, and fails unless each
+    /// of the first came at least so often in either profile, and each of the others where case is
+    /// ignored.
     ///
     /// # Panics
     /// If one of them did not.
-    pub fn end(self, least: &[(&str, u64)]) {
+    pub fn end(self, either: &[(&str, u64)], folded: &[(&str, u64)]) {
         let all: Vec<String> = self
             .seen
             .iter()
-            .map(|(what, count)| format!("{what}: {count}"))
+            .map(|(what, [exact, folded])| format!("{what}: {exact} + {folded}"))
             .collect();
         let seconds = self.began.elapsed().as_secs_f32();
         println!("{}, {seconds:.1} s: {}", self.name, all.join(", "));
-        for (what, due) in least {
-            let came = self.seen.get(*what).copied().unwrap_or(0);
-            assert!(
-                came >= *due,
-                "{}: '{what}' came {came} times, not {due}",
-                self.name
-            );
+        let came = |what: &str, profile| {
+            let counts = self.seen.get(what);
+            counts.map_or(0, |counts| counts[profile as usize])
+        };
+        for (what, due) in either {
+            let least = came(what, Profile::Exact).min(came(what, Profile::Folded));
+            self.at_least(what, least, *due);
         }
+        for (what, due) in folded {
+            self.at_least(what, came(what, Profile::Folded), *due);
+        }
+    }
+
+    fn at_least(&self, what: &str, came: u64, due: u64) {
+        let name = self.name;
+        assert!(came >= due, "{name}: '{what}' came {came} times, not {due}");
     }
 }
 
 impl Case<'_> {
     /// Counts something that came.
     pub fn saw(&mut self, what: &str) {
-        match self.tried.seen.get_mut(what) {
-            Some(count) => *count += 1,
-            None => drop(self.tried.seen.insert(what.to_string(), 1)),
+        if !self.tried.seen.contains_key(what) {
+            self.tried.seen.insert(what.to_string(), [0; 2]);
+        }
+        if let Some(counts) = self.tried.seen.get_mut(what) {
+            counts[self.profile as usize] += 1;
+        }
+    }
+
+    /// The profile as a word for the library: any but 0 ignores letter case.
+    pub fn word(&mut self) -> u32 {
+        match self.profile {
+            Profile::Exact => 0,
+            Profile::Folded if self.rng.one_in(8) => self.rng.word().max(1),
+            Profile::Folded => 1,
         }
     }
 
@@ -85,7 +110,8 @@ impl Case<'_> {
     /// # Panics
     /// Always.
     pub fn fail(&self, what: &str) -> ! {
-        panic!("{}, seed {}: {what}", self.tried.name, self.seed)
+        let (name, seed, profile) = (self.tried.name, self.seed, self.profile);
+        panic!("{name}, seed {seed}, {profile:?}: {what}")
     }
 
     /// Fails unless both are the same.

@@ -6,7 +6,7 @@ use reference::{Node, MOST_BYTES, MOST_ROWS, ROW};
 
 fn small(case: &mut Case, most: usize) -> Node {
     let size = generate::size(&mut case.rng).min(most);
-    generate::tree(&mut case.rng, size)
+    generate::tree(&mut case.rng, case.profile, size)
 }
 
 /// A room near the one for so many rows, or one for more.
@@ -31,7 +31,10 @@ fn layouts() {
         let room = room(case, rows);
         both::read(case, &text, room);
     });
-    tried.end(&[("read", 30_000), ("read 0", 20_000), ("read 3", 3_000)]);
+    tried.end(
+        &[("read", 15_000), ("read 0", 10_000), ("read 3", 1_500)],
+        &[],
+    );
 }
 
 #[test]
@@ -40,7 +43,7 @@ fn faults() {
     for number in FAULTS {
         tried.cases(4_100_000, 2_000, |case| {
             let tree = small(case, 40);
-            let faulty = generate::faulty(&mut case.rng, &tree, number);
+            let faulty = generate::faulty(&mut case.rng, case.profile, &tree, number);
             let room = faulty.room_words.min(300 * ROW + faulty.room_words % ROW);
             if both::read(case, &faulty.text, room).is_some() {
                 case.fail(&format!("a text with fault {number} is taken"));
@@ -50,9 +53,9 @@ fn faults() {
     let numbers = FAULTS.map(|number| format!("read {number}"));
     let least: Vec<_> = numbers
         .iter()
-        .map(|number| (number.as_str(), 2_000))
+        .map(|number| (number.as_str(), 1_000))
         .collect();
-    tried.end(&least);
+    tried.end(&least, &[]);
 }
 
 #[test]
@@ -67,18 +70,21 @@ fn one_byte_hurt() {
         let room = (tree.rows() + 2) * ROW;
         both::read(case, &text, room);
     });
-    tried.end(&[
-        ("read", 25_000),
-        ("read 0", 3_000),
-        ("read 6", 100),
-        ("read 7", 1_000),
-        ("read 8", 1_000),
-        ("read 9", 1_000),
-        ("read 10", 300),
-        ("read 11", 300),
-        ("read 12", 1),
-        ("read 13", 10),
-    ]);
+    tried.end(
+        &[
+            ("read", 12_500),
+            ("read 0", 1_500),
+            ("read 6", 50),
+            ("read 7", 500),
+            ("read 8", 500),
+            ("read 9", 500),
+            ("read 10", 150),
+            ("read 11", 150),
+            ("read 12", 1),
+            ("read 13", 1),
+        ],
+        &[],
+    );
 }
 
 #[test]
@@ -89,19 +95,22 @@ fn line_soup() {
         let room = case.rng.below(14 * ROW);
         both::read(case, &text, room);
     });
-    tried.end(&[
-        ("read", 60_000),
-        ("read 0", 3_000),
-        ("read 3", 1_000),
-        ("read 6", 30),
-        ("read 7", 800),
-        ("read 8", 1_000),
-        ("read 9", 1_000),
-        ("read 10", 1_000),
-        ("read 11", 1_000),
-        ("read 12", 1_000),
-        ("read 13", 200),
-    ]);
+    tried.end(
+        &[
+            ("read", 30_000),
+            ("read 0", 1_500),
+            ("read 3", 500),
+            ("read 6", 8),
+            ("read 7", 400),
+            ("read 8", 500),
+            ("read 9", 500),
+            ("read 10", 500),
+            ("read 11", 500),
+            ("read 12", 500),
+            ("read 13", 100),
+        ],
+        &[],
+    );
 }
 
 /// Texts cut off anywhere, and any bytes at all.
@@ -124,7 +133,7 @@ fn cut_texts_and_any_bytes() {
         bytes.push(b'\n');
         both::read(case, &bytes, 2 * ROW);
     });
-    tried.end(&[("read", 20_000), ("read 0", 1_000), ("read 6", 1_000)]);
+    tried.end(&[("read", 10_000), ("read 0", 500), ("read 6", 500)], &[]);
 }
 
 /// Texts of 65,535 to 65,537 bytes and of 4,095 to 4,098 rows, in rooms around 4,096 rows.
@@ -145,14 +154,14 @@ fn limits_of_a_text() {
             both::read(case, &crowd, room);
         }
     });
-    tried.end(&[("read 0", 100), ("read 3", 8), ("read 6", 60)]);
+    tried.end(&[("read 0", 50), ("read 3", 4), ("read 6", 30)], &[]);
 }
 
 /// Tables whose texts have 65,535 to 65,537 bytes: a lone root takes 21, and a folder beside it 13 and its name.
 #[test]
 fn limits_of_a_written_text() {
     let mut tried = Tried::new("limits of a written text");
-    tried.cases(4_650_000, 3, |case| {
+    tried.cases(4_650_000, 4, |case| {
         for last in 30..=32 {
             let mut tree = Node::default();
             for (number, length) in [vec![32; 1454], vec![28, last]]
@@ -160,8 +169,8 @@ fn limits_of_a_written_text() {
                 .into_iter()
                 .enumerate()
             {
-                let name = format!("{number:0length$}").into_bytes();
-                tree.put(&[name], Some(Node::default()));
+                let name = format!("{number:0length$}");
+                tree.put(&case.profile.path(&[name]), Some(Node::default()));
             }
             let table = reference::table(&tree);
             for room in [MOST_BYTES - 1, MOST_BYTES, MOST_BYTES + 1, 2 * MOST_BYTES] {
@@ -169,7 +178,7 @@ fn limits_of_a_written_text() {
             }
         }
     });
-    tried.end(&[("write 0", 21), ("write 3 side 1", 15)]);
+    tried.end(&[("write 0", 10), ("write 3 side 1", 7)], &[]);
 }
 
 /// Large trees in order, in reverse and in any order.
@@ -180,7 +189,7 @@ fn large_texts() {
         let rng = &mut case.rng;
         let shape = rng.pick(&generate::SHAPES);
         let rows = 100 + rng.below(450);
-        let tree = generate::shaped(rng, shape, rows);
+        let tree = generate::shaped(rng, case.profile, shape, rows);
         let text = generate::listing(rng, &tree);
         both::read(case, &text, (rows + 1) * ROW);
         let table = reference::table(&tree);
@@ -189,7 +198,7 @@ fn large_texts() {
             case.same("read back", &read.unwrap_or_default(), &table);
         }
     });
-    tried.end(&[("read", 100), ("read 0", 60), ("write 0", 40)]);
+    tried.end(&[("read", 50), ("read 0", 30), ("write 0", 20)], &[]);
 }
 
 #[test]
@@ -198,7 +207,8 @@ fn written_and_read_back() {
     tried.cases(4_800_000, 8_000, |case| {
         let tree = small(case, 150);
         let table = reference::table(&tree);
-        let text = reference::write(&table, usize::MAX).expect("a small tree has a short text");
+        let text = reference::write(case.profile, &table, usize::MAX);
+        let text = text.expect("a small tree has a short text");
         for room in [
             text.len(),
             text.len() - 1,
@@ -211,10 +221,13 @@ fn written_and_read_back() {
             }
         }
     });
-    tried.end(&[
-        ("write", 32_000),
-        ("write 0", 16_000),
-        ("write 3 side 1", 16_000),
-        ("read 0", 16_000),
-    ]);
+    tried.end(
+        &[
+            ("write", 16_000),
+            ("write 0", 8_000),
+            ("write 3 side 1", 8_000),
+            ("read 0", 8_000),
+        ],
+        &[],
+    );
 }

@@ -9,9 +9,9 @@ fn random_moves() {
     let mut tried = Tried::new("random moves");
     tried.cases(3_000_000, 20_000, |case| {
         let size = generate::size(&mut case.rng).min(100);
-        let three = generate::three(&mut case.rng, size);
+        let three = generate::three(&mut case.rng, case.profile, size);
         let [_, target, source] = three.tables();
-        let (names, depth) = generate::path(&mut case.rng, &three.left, &three.right);
+        let (names, depth) = generate::path(&mut case.rng, case.profile, &three.left, &three.right);
         let ample = target.len() + source.len();
         let moved = both::make_move(case, &target, &source, (&names, depth), ample);
         // The same again in a room about as long as the result, or as the target.
@@ -26,14 +26,17 @@ fn random_moves() {
             case.same("a second move", &again.unwrap_or_default(), &moved);
         }
     });
-    tried.end(&[
-        ("move", 50_000),
-        ("move 0", 25_000),
-        ("move 3 side 2", 3_000),
-        ("move 4", 300),
-        ("move 5", 1_000),
-        ("altered", 5_000),
-    ]);
+    tried.end(
+        &[
+            ("move", 25_000),
+            ("move 0", 12_500),
+            ("move 3 side 2", 1_500),
+            ("move 4", 150),
+            ("move 5", 500),
+            ("altered", 2_500),
+        ],
+        &[],
+    );
 }
 
 /// Every room from none to a row too long.
@@ -42,9 +45,9 @@ fn all_rooms() {
     let mut tried = Tried::new("all rooms of a move");
     tried.cases(3_100_000, 400, |case| {
         let size = generate::size(&mut case.rng).min(12);
-        let three = generate::three(&mut case.rng, size);
+        let three = generate::three(&mut case.rng, case.profile, size);
         let [_, target, source] = three.tables();
-        let (names, depth) = generate::path(&mut case.rng, &three.left, &three.right);
+        let (names, depth) = generate::path(&mut case.rng, case.profile, &three.left, &three.right);
         let ample = target.len() + source.len();
         let moved = both::make_move(case, &target, &source, (&names, depth), ample);
         let exact = moved.map_or(target.len(), |moved| moved.len());
@@ -52,7 +55,10 @@ fn all_rooms() {
             both::make_move(case, &target, &source, (&names, depth), room);
         }
     });
-    tried.end(&[("move", 40_000), ("move 0", 5_000), ("move 3", 20_000)]);
+    tried.end(
+        &[("move", 20_000), ("move 0", 2_500), ("move 3", 10_000)],
+        &[],
+    );
 }
 
 /// Deep paths, each slot and the depth bad at times, and slots past the depth.
@@ -61,15 +67,20 @@ fn slots() {
     let mut tried = Tried::new("slots");
     tried.cases(3_200_000, 20_000, |case| {
         let rng = &mut case.rng;
-        let tree = generate::shaped(rng, generate::Shape::Deep, 33);
-        let source = reference::table(&generate::strewn(rng, &tree, 12, 40));
-        let target = reference::table(&generate::strewn(rng, &tree, 12, 40));
+        let tree = generate::shaped(rng, case.profile, generate::Shape::Deep, 33);
+        let source = reference::table(&generate::strewn(rng, case.profile, &tree, 12, 40));
+        let target = reference::table(&generate::strewn(rng, case.profile, &tree, 12, 40));
         let paths = tree.paths();
         let (mut names, mut depth) = reference::slots(&rng.pick(&paths));
         match rng.below(6) {
             0 => depth = rng.below(19) as u32,
             1 => names[rng.below(16)] = [0; 8],
-            2 => names[rng.below(16)] = reference::name_words(&generate::name(rng)),
+            2 => {
+                names[rng.below(16)] = {
+                    let name = generate::name(rng, case.profile);
+                    reference::name_words(name.spelled())
+                }
+            }
             3 => names[rng.below(16)][rng.below(8)] = rng.word(),
             4 => {
                 let bad: [&[u8]; 6] = [b".", b"..", b"a/b", b"\0a", b"a\0b", b"/"];
@@ -79,12 +90,15 @@ fn slots() {
         }
         both::make_move(case, &target, &source, (&names, depth), 80 * ROW);
     });
-    tried.end(&[
-        ("move", 20_000),
-        ("move 0", 3_000),
-        ("move 4", 2_000),
-        ("move 5", 6_000),
-    ]);
+    tried.end(
+        &[
+            ("move", 10_000),
+            ("move 0", 1_500),
+            ("move 4", 1_000),
+            ("move 5", 3_000),
+        ],
+        &[],
+    );
 }
 
 /// Moves of and into large trees, with results of 4,095 to 4,098 rows.
@@ -95,12 +109,17 @@ fn large_moves() {
         let rng = &mut case.rng;
         let (rows, over) = (3 + rng.below(4000), rng.below(4));
         let shape = rng.pick(&generate::SHAPES);
-        let tree = generate::shaped(rng, shape, rows);
-        let other = generate::shaped(rng, generate::Shape::Wide, MOST_ROWS - 1 + over - rows);
+        let tree = generate::shaped(rng, case.profile, shape, rows);
+        let other = generate::shaped(
+            rng,
+            case.profile,
+            generate::Shape::Wide,
+            MOST_ROWS - 1 + over - rows,
+        );
         let target = reference::table(&tree);
-        let added = Entries::from([(b"x".to_vec(), other)]);
-        let source = reference::table(&Node::Folder(added));
-        let (names, depth) = reference::slots(&[b"x".to_vec()]);
+        let added = Node::Folder(Entries::from([(case.profile.name(b"x"), other)]));
+        let source = reference::table(&generate::respelled(rng, case.profile, &added));
+        let (names, depth) = reference::slots(&case.profile.path(&["x"]));
         let room = (MOST_ROWS + 4) * ROW;
         let moved = both::make_move(case, &target, &source, (&names, depth), room);
         if moved.is_some() != (over < 2) {
@@ -115,7 +134,7 @@ fn large_moves() {
         let back = both::make_move(case, &gone, &target, (&names, depth), room);
         case.same("back", &back.unwrap_or_default(), &target);
     });
-    tried.end(&[("move", 360), ("move 0", 250), ("move 3", 30)]);
+    tried.end(&[("move", 180), ("move 0", 125), ("move 3", 15)], &[]);
 }
 
 #[test]
@@ -123,16 +142,19 @@ fn carried() {
     let mut tried = Tried::new("carried");
     tried.cases(3_400_000, 12_000, |case| {
         let size = generate::size(&mut case.rng).min(200);
-        let [_, left, right] = generate::three(&mut case.rng, size).tables();
+        let [_, left, right] = generate::three(&mut case.rng, case.profile, size).tables();
         for _ in 0..5 {
             let entry = generate::entry(&mut case.rng, left.len() / ROW, right.len() / ROW);
             both::carried(case, &left, &right, entry);
         }
     });
-    tried.end(&[
-        ("carried", 60_000),
-        ("carried from 0", 20_000),
-        ("carried from 2", 6_000),
-        ("carried from 3", 6_000),
-    ]);
+    tried.end(
+        &[
+            ("carried", 30_000),
+            ("carried from 0", 10_000),
+            ("carried from 2", 3_000),
+            ("carried from 3", 3_000),
+        ],
+        &[],
+    );
 }

@@ -2,7 +2,7 @@
 
 use compare::{both, Case, Tried};
 use reference::generate::{self, Three};
-use reference::{Entries, Node, Outcome, Rooms, MOST_ROWS, ROW};
+use reference::{Entries, Node, Outcome, Profile, Rooms, MOST_ROWS, ROW};
 
 const UNITS: [usize; 4] = [ROW, ROW, ROW, 3];
 
@@ -11,9 +11,10 @@ fn parts(tables: &[Vec<u32>; 3]) -> [&[u32]; 3] {
 }
 
 /// What the reference makes of three tables where there is room for everything.
-fn outcome(tables: &[Vec<u32>; 3]) -> Outcome {
+fn outcome(profile: Profile, tables: &[Vec<u32>; 3]) -> Outcome {
     let [archive, left, right] = parts(tables);
-    reference::reconcile(archive, left, right, Rooms::AMPLE).expect("small trees are accepted")
+    let answer = reference::reconcile(profile, archive, left, right, Rooms::AMPLE);
+    answer.expect("small trees are accepted")
 }
 
 fn rooms([archive, left, right, list]: [usize; 4]) -> Rooms {
@@ -30,8 +31,8 @@ fn related_trees() {
     let mut tried = Tried::new("related trees");
     tried.cases(1_000_000, 25_000, |case| {
         let size = generate::size(&mut case.rng).min(120);
-        let tables = generate::three(&mut case.rng, size).tables();
-        let due = outcome(&tables);
+        let tables = generate::three(&mut case.rng, case.profile, size).tables();
+        let due = outcome(case.profile, &tables);
         for (kind, count) in due.tally.iter().enumerate() {
             if *count > 0 {
                 case.saw(["left gets", "right gets", "clash"][kind]);
@@ -40,17 +41,20 @@ fn related_trees() {
         let rooms = generate::rooms(&mut case.rng, &due);
         both::reconcile(case, parts(&tables), rooms);
     });
-    tried.end(&[
-        ("reconcile", 25_000),
-        ("reconcile 0", 15_000),
-        ("reconcile 3 side 1", 500),
-        ("reconcile 3 side 2", 500),
-        ("reconcile 3 side 3", 500),
-        ("reconcile 3 side 4", 300),
-        ("left gets", 5_000),
-        ("right gets", 5_000),
-        ("clash", 5_000),
-    ]);
+    tried.end(
+        &[
+            ("reconcile", 12_500),
+            ("reconcile 0", 7_500),
+            ("reconcile 3 side 1", 250),
+            ("reconcile 3 side 2", 250),
+            ("reconcile 3 side 3", 250),
+            ("reconcile 3 side 4", 150),
+            ("left gets", 2_500),
+            ("right gets", 2_500),
+            ("clash", 2_500),
+        ],
+        &[],
+    );
 }
 
 /// Each result's room from none to more than a unit too long, the others exact or short as well.
@@ -59,8 +63,8 @@ fn all_rooms() {
     let mut tried = Tried::new("all rooms");
     tried.cases(1_100_000, 250, |case| {
         let size = generate::size(&mut case.rng).min(40);
-        let tables = generate::three(&mut case.rng, size).tables();
-        let counts = outcome(&tables).counts();
+        let tables = generate::three(&mut case.rng, case.profile, size).tables();
+        let counts = outcome(case.profile, &tables).counts();
         let exact = [0, 1, 2, 3].map(|side| counts[side] as usize * UNITS[side]);
         for side in 0..4 {
             let unit = UNITS[side];
@@ -78,14 +82,17 @@ fn all_rooms() {
             }
         }
     });
-    tried.end(&[
-        ("reconcile", 30_000),
-        ("reconcile 0", 10_000),
-        ("reconcile 3 side 1", 3_000),
-        ("reconcile 3 side 2", 3_000),
-        ("reconcile 3 side 3", 3_000),
-        ("reconcile 3 side 4", 500),
-    ]);
+    tried.end(
+        &[
+            ("reconcile", 15_000),
+            ("reconcile 0", 5_000),
+            ("reconcile 3 side 1", 1_500),
+            ("reconcile 3 side 2", 1_500),
+            ("reconcile 3 side 3", 1_500),
+            ("reconcile 3 side 4", 250),
+        ],
+        &[],
+    );
 }
 
 /// Rooms for everything that three tables can come to.
@@ -103,12 +110,12 @@ fn large_trees() {
         let rows = rng.pick(&[256, 1000, 2000, 4095, 4096]);
         let three = if rng.one_in(2) {
             let change = rng.pick(&generate::CHANGES);
-            generate::changed(rng, shape, rows, change)
+            generate::changed(rng, case.profile, shape, rows, change)
         } else {
-            let archive = generate::shaped(rng, shape, rows);
+            let archive = generate::shaped(rng, case.profile, shape, rows);
             let odds = rng.pick(&[8, 40, 400]);
-            let left = generate::strewn(rng, &archive, odds, MOST_ROWS);
-            let right = generate::strewn(rng, &archive, odds, MOST_ROWS);
+            let left = generate::strewn(rng, case.profile, &archive, odds, MOST_ROWS);
+            let right = generate::strewn(rng, case.profile, &archive, odds, MOST_ROWS);
             Three {
                 archive,
                 left,
@@ -121,21 +128,26 @@ fn large_trees() {
         }
         both::reconcile(case, parts(&tables), enough(&tables));
     });
-    tried.end(&[
-        ("reconcile", 200),
-        ("reconcile 0", 150),
-        ("three times 4,096 rows", 10),
-    ]);
+    tried.end(
+        &[
+            ("reconcile", 100),
+            ("reconcile 0", 75),
+            ("three times 4,096 rows", 5),
+        ],
+        &[],
+    );
 }
 
 /// A folder of so many rows, itself one of them.
 fn pile(case: &mut Case, rows: usize) -> Node {
-    generate::shaped(&mut case.rng, generate::Shape::Wide, rows)
+    generate::shaped(&mut case.rng, case.profile, generate::Shape::Wide, rows)
 }
 
-fn tree<const N: usize>(entries: [(&str, Node); N]) -> Node {
-    let named = entries.map(|(name, node)| (name.as_bytes().to_vec(), node));
-    Node::Folder(Entries::from(named))
+/// A tree of these entries, in any letter case if case is ignored.
+fn tree<const N: usize>(case: &mut Case, entries: [(&str, Node); N]) -> Node {
+    let named = entries.map(|(name, node)| (case.profile.name(name.as_bytes()), node));
+    let tree = Node::Folder(Entries::from(named));
+    generate::respelled(&mut case.rng, case.profile, &tree)
 }
 
 /// Results of about 4,096 rows, of the archive alone, of left alone and of right alone.
@@ -152,19 +164,19 @@ fn results_at_the_limit() {
         let side = case.rng.below(3);
         let three = match side {
             0 => Three {
-                archive: tree([("p", one)]),
-                left: tree([("p", f), ("q", other.clone())]),
-                right: tree([("p", g), ("q", other)]),
+                archive: tree(case, [("p", one)]),
+                left: tree(case, [("p", f), ("q", other.clone())]),
+                right: tree(case, [("p", g), ("q", other)]),
             },
             1 => Three {
-                archive: tree([]),
-                left: tree([("p", one)]),
-                right: tree([("p", f), ("q", other)]),
+                archive: tree(case, []),
+                left: tree(case, [("p", one)]),
+                right: tree(case, [("p", f), ("q", other)]),
             },
             _ => Three {
-                archive: tree([]),
-                left: tree([("p", f), ("q", other)]),
-                right: tree([("p", one)]),
+                archive: tree(case, []),
+                left: tree(case, [("p", f), ("q", other)]),
+                right: tree(case, [("p", one)]),
             },
         };
         let tables = three.tables();
@@ -173,10 +185,13 @@ fn results_at_the_limit() {
             case.fail("4,096 rows are taken and 4,097 refused");
         }
     });
-    tried.end(&[
-        ("reconcile 0", 12),
-        ("reconcile 3 side 1", 4),
-        ("reconcile 3 side 2", 4),
-        ("reconcile 3 side 3", 4),
-    ]);
+    tried.end(
+        &[
+            ("reconcile 0", 6),
+            ("reconcile 3 side 1", 2),
+            ("reconcile 3 side 2", 2),
+            ("reconcile 3 side 3", 2),
+        ],
+        &[],
+    );
 }

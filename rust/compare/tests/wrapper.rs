@@ -5,6 +5,14 @@ use kantifero::{Buffers, Refusal, Tally};
 use reference::generate::{self, DAMAGES};
 use reference::{Answer, Rooms, MOST_BYTES, ROW};
 
+/// The case's profile as the wrapper has it.
+fn told_profile(case: &Case) -> kantifero::Profile {
+    match case.profile {
+        reference::Profile::Exact => kantifero::Profile::Exact,
+        reference::Profile::Folded => kantifero::Profile::Folded,
+    }
+}
+
 /// A refusal of the wrapper's with the reference's numbers.
 fn told<T, U>(answer: Answer<T>, made: impl Fn(T) -> U) -> Result<U, Refusal> {
     answer.map(made).map_err(|no| Refusal {
@@ -17,11 +25,12 @@ fn told<T, U>(answer: Answer<T>, made: impl Fn(T) -> U) -> Result<U, Refusal> {
 /// Three tables, of which one is damaged at times.
 fn tables(case: &mut Case) -> ([Vec<u32>; 3], generate::Three) {
     let size = generate::size(&mut case.rng).min(60);
-    let three = generate::three(&mut case.rng, size);
+    let three = generate::three(&mut case.rng, case.profile, size);
     let mut tables = three.tables();
     if case.rng.one_in(6) {
         let (side, damage) = (case.rng.below(3), case.rng.pick(&DAMAGES));
-        if let Some(damaged) = generate::damaged(&mut case.rng, &tables[side], damage) {
+        if let Some(damaged) = generate::damaged(&mut case.rng, case.profile, &tables[side], damage)
+        {
             tables[side] = damaged.table;
         }
     }
@@ -39,7 +48,7 @@ fn reconcile() {
     let mut tried = Tried::new("the wrapper's reconcile");
     tried.cases(6_000_000, 4_000, |case| {
         let ([archive, left, right], _) = tables(case);
-        let due = reference::reconcile(&archive, &left, &right, Rooms::AMPLE);
+        let due = reference::reconcile(case.profile, &archive, &left, &right, Rooms::AMPLE);
         let rooms = match &due {
             Ok(due) => generate::rooms(&mut case.rng, due),
             Err(_) => Rooms::AMPLE,
@@ -55,12 +64,12 @@ fn reconcile() {
             right: due.right,
             list: due.list,
         };
-        let ours = kantifero::reconcile_in_new(&archive, &left, &right);
+        let ours = kantifero::reconcile_in_new(told_profile(case), &archive, &left, &right);
         saw(case, "in new", &ours);
         case.same("in new buffers", &[ours], &[told(due, made)]);
 
         let mut theirs = reference::lent::Buffers::filled(rooms, 5);
-        let due = reference::lent::reconcile(&archive, &left, &right, &mut theirs);
+        let due = reference::lent::reconcile(case.profile, &archive, &left, &right, &mut theirs);
         let mut lent = reference::lent::Buffers::filled(rooms, 5);
         let mut tally = Tally {
             left: 5,
@@ -73,7 +82,14 @@ fn reconcile() {
             right: &mut lent.right,
             list: &mut lent.list,
         };
-        let ours = kantifero::reconcile(&archive, &left, &right, buffers, &mut tally);
+        let ours = kantifero::reconcile(
+            told_profile(case),
+            &archive,
+            &left,
+            &right,
+            buffers,
+            &mut tally,
+        );
         lent.tally = [tally.left, tally.right, tally.clash];
         saw(case, "lent", &ours);
         let counts = |[archive, left, right, list]: [u32; 4]| kantifero::Counts {
@@ -85,12 +101,15 @@ fn reconcile() {
         case.same("in lent buffers", &[ours], &[told(due, counts)]);
         case.same("the buffers", &[lent], &[theirs]);
     });
-    tried.end(&[
-        ("in new taken", 3_000),
-        ("in new refused", 300),
-        ("lent taken", 2_000),
-        ("lent refused", 500),
-    ]);
+    tried.end(
+        &[
+            ("in new taken", 1_500),
+            ("in new refused", 150),
+            ("lent taken", 1_000),
+            ("lent refused", 250),
+        ],
+        &[],
+    );
 }
 
 #[test]
@@ -98,22 +117,28 @@ fn the_other_calls() {
     let mut tried = Tried::new("the wrapper's other calls");
     tried.cases(6_100_000, 6_000, |case| {
         let ([_, left, right], three) = tables(case);
-        let ours = kantifero::check(&left);
+        let profile = told_profile(case);
+        let ours = kantifero::check(profile, &left);
         saw(case, "check", &ours);
-        case.same("check", &[ours], &[told(reference::check(&left), |_| ())]);
+        case.same(
+            "check",
+            &[ours],
+            &[told(reference::check(case.profile, &left), |_| ())],
+        );
 
-        let (names, depth) = generate::path(&mut case.rng, &three.left, &three.right);
+        let (names, depth) = generate::path(&mut case.rng, case.profile, &three.left, &three.right);
         let room = generate::room(&mut case.rng, three.left.rows(), ROW);
         let (mut lent, mut theirs) = (vec![5; room], vec![5; room]);
-        let ours = kantifero::make_move(&left, &right, &names, depth, &mut lent);
-        let due = reference::lent::make_move(&left, &right, &names, depth, &mut theirs);
+        let ours = kantifero::make_move(profile, &left, &right, &names, depth, &mut lent);
+        let due =
+            reference::lent::make_move(case.profile, &left, &right, &names, depth, &mut theirs);
         saw(case, "move", &ours);
         case.same("move", &[ours], &[told(due, |rows| rows)]);
         case.same("result", &lent, &theirs);
 
         let entry = generate::entry(&mut case.rng, left.len() / ROW, right.len() / ROW);
-        let ours = kantifero::carried(&left, &right, entry);
-        let part = reference::carried(&left, &right, entry[0], entry[1], entry[2]);
+        let ours = kantifero::carried(profile, &left, &right, entry);
+        let part = reference::carried(case.profile, &left, &right, entry[0], entry[1], entry[2]);
         let due = part.map_or(&[] as &[u32], |part| {
             let table = if part.side == 2 { &left } else { &right };
             &table[part.start..part.start + part.words]
@@ -125,8 +150,8 @@ fn the_other_calls() {
 
         let room = case.rng.below(2 * MOST_BYTES / 20);
         let (mut lent, mut theirs) = (vec![5; room], vec![5; room]);
-        let ours = kantifero::write(&left, &mut lent);
-        let due = reference::lent::write(&left, &mut theirs);
+        let ours = kantifero::write(profile, &left, &mut lent);
+        let due = reference::lent::write(case.profile, &left, &mut theirs);
         saw(case, "write", &ours);
         case.same("write", &[ours], &[told(due, |bytes| bytes)]);
         case.same("text", &lent, &theirs);
@@ -137,21 +162,24 @@ fn the_other_calls() {
         }
         let room = generate::room(&mut case.rng, three.left.rows(), ROW);
         let (mut lent, mut theirs) = (vec![5; room], vec![5; room]);
-        let ours = kantifero::read(&text, &mut lent);
-        let due = reference::lent::read(&text, &mut theirs);
+        let ours = kantifero::read(profile, &text, &mut lent);
+        let due = reference::lent::read(case.profile, &text, &mut theirs);
         saw(case, "read", &ours);
         case.same("read", &[ours], &[told(due, |rows| rows)]);
         case.same("table", &lent, &theirs);
     });
-    tried.end(&[
-        ("check taken", 5_000),
-        ("check refused", 100),
-        ("move taken", 2_000),
-        ("move refused", 1_000),
-        ("carried rows", 1_000),
-        ("write taken", 2_000),
-        ("write refused", 500),
-        ("read taken", 2_000),
-        ("read refused", 1_000),
-    ]);
+    tried.end(
+        &[
+            ("check taken", 2_500),
+            ("check refused", 50),
+            ("move taken", 1_000),
+            ("move refused", 500),
+            ("carried rows", 500),
+            ("write taken", 1_000),
+            ("write refused", 250),
+            ("read taken", 1_000),
+            ("read refused", 500),
+        ],
+        &[],
+    );
 }

@@ -14,7 +14,7 @@ pub const LIST: u32 = 4;
 /// A call that was not accepted. What the paper does not name for a number is 0.
 #[derive(Clone, Copy, Debug, PartialEq, Eq, Hash)]
 pub struct Refusal {
-    /// 1 to 14.
+    /// 1 to 14, or 16.
     pub number: u32,
     /// 1 archive, 2 left or target, 3 right or source, 4 list; 0 when reading, 1 when writing.
     pub side: u32,
@@ -54,6 +54,7 @@ impl Refusal {
             12 => "there is no root",
             13 => "the name stands twice in its folder",
             14 => "the entry would have depth 17",
+            16 => "two siblings are equal where letter case is ignored",
             _ => "no such number",
         }
     }

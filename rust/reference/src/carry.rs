@@ -1,8 +1,9 @@
 //! The rows that a list entry carries.
 
 use crate::answer::{LEFT, RIGHT};
+use crate::name::Profile;
 use crate::reconcile::{LEFT_GETS, RIGHT_GETS};
-use crate::table::{check, ROW};
+use crate::table::{check_all, ROW};
 
 /// A part of one of the two tables.
 #[derive(Clone, Copy, Debug, PartialEq, Eq)]
@@ -17,6 +18,7 @@ pub struct Part {
 
 /// The rows to carry for an entry, or nothing.
 pub fn carried(
+    profile: Profile,
     left: &[u32],
     right: &[u32],
     kind: u32,
@@ -28,7 +30,8 @@ pub fn carried(
         RIGHT_GETS => (LEFT, left, left_row as usize),
         _ => return None,
     };
-    if check(left).is_err() || check(right).is_err() || row >= table.len() / ROW {
+    check_all(profile, [(LEFT, left), (RIGHT, right)]).ok()?;
+    if row >= table.len() / ROW {
         return None;
     }
     let depths: Vec<u32> = table.chunks(ROW).map(|row| row[0]).collect();

@@ -2,6 +2,7 @@
 
 use crate::answer::Answer;
 use crate::moves::Slots;
+use crate::name::Profile;
 use crate::reconcile::{Outcome, Rooms};
 use crate::table::ROW;
 
@@ -45,12 +46,13 @@ impl Buffers {
 
 /// Reconciles into lent buffers; accepted, it gives the four counts.
 pub fn reconcile(
+    profile: Profile,
     archive: &[u32],
     left: &[u32],
     right: &[u32],
     lent: &mut Buffers,
 ) -> Answer<[u32; 4]> {
-    let outcome: Outcome = crate::reconcile(archive, left, right, lent.rooms())?;
+    let outcome: Outcome = crate::reconcile(profile, archive, left, right, lent.rooms())?;
     overwrite(&mut lent.archive, &outcome.archive);
     overwrite(&mut lent.left, &outcome.left);
     overwrite(&mut lent.right, &outcome.right);
@@ -61,28 +63,29 @@ pub fn reconcile(
 
 /// Carries out a move into a lent table; accepted, it gives the rows of the result.
 pub fn make_move(
+    profile: Profile,
     target: &[u32],
     source: &[u32],
     names: &Slots,
     depth: u32,
     lent: &mut [u32],
 ) -> Answer<usize> {
-    let result = crate::make_move(target, source, names, depth, lent.len())?;
+    let result = crate::make_move(profile, target, source, names, depth, lent.len())?;
     overwrite(lent, &result);
     Ok(result.len() / ROW)
 }
 
 /// Writes a listing into lent bytes; accepted, it gives the number of bytes.
-pub fn write(table: &[u32], lent: &mut [u8]) -> Answer<usize> {
-    let text = crate::write(table, lent.len())?;
+pub fn write(profile: Profile, table: &[u32], lent: &mut [u8]) -> Answer<usize> {
+    let text = crate::write(profile, table, lent.len())?;
     overwrite(lent, &text);
     Ok(text.len())
 }
 
 /// Reads a listing into a lent table, zeroed first; accepted, it gives the number of rows.
-pub fn read(text: &[u8], lent: &mut [u32]) -> Answer<usize> {
+pub fn read(profile: Profile, text: &[u8], lent: &mut [u32]) -> Answer<usize> {
     lent.fill(0);
-    let table = crate::read(text, lent.len())?;
+    let table = crate::read(profile, text, lent.len())?;
     overwrite(lent, &table);
     Ok(table.len() / ROW)
 }

@@ -2,18 +2,24 @@
 
 use crate::answer::{Answer, Refusal};
 use crate::listing::MOST_BYTES;
+use crate::name::Profile;
 use crate::table::{good_name, table, DEEPEST, MOST_ROWS, ROW};
 use crate::tree::{Node, Path};
 
-/// The table of a listing, if it fits the lent room in words.
-pub fn read(text: &[u8], room_words: usize) -> Answer<Vec<u32>> {
+/// The table of a listing, if it fits the lent room in words: in the profile's order, names spelled
+/// as in the text.
+pub fn read(profile: Profile, text: &[u8], room_words: usize) -> Answer<Vec<u32>> {
     let refused = |number, place| Refusal::new(number, 0, place);
     if text.len() > MOST_BYTES || text.last().is_some_and(|&last| last != b'\n') {
         return Err(refused(6, 0));
     }
     let mut reader = Reader {
+        profile,
         room: MOST_ROWS.min(room_words / ROW),
-        ..Reader::default()
+        tree: None,
+        first_default: None,
+        defaults: Vec::new(),
+        path: Path::new(),
     };
     for line in lines(text) {
         let taken = reader.take(&line.bytes);
@@ -69,8 +75,9 @@ enum Type {
 }
 
 /// What has been read so far.
-#[derive(Default)]
 struct Reader {
+    /// How names are matched.
+    profile: Profile,
     /// The most rows that may be read.
     room: usize,
     /// The tree, once its root was listed.
@@ -163,7 +170,7 @@ impl Reader {
             Type::File => file_of(rest)?,
         };
         let mut path = self.path.clone();
-        path.push(name);
+        path.push(self.profile.name(&name));
         let tree = self.tree.as_mut().expect("a folder is open");
         if path.len() > DEEPEST {
             return Err(14);

@@ -3,7 +3,8 @@
 use std::collections::{BTreeMap, BTreeSet};
 
 use crate::answer::{Answer, Refusal, ARCHIVE, LEFT, LIST, RIGHT};
-use crate::table::{check_side, table, MOST_ROWS, NO_ROW, ROW};
+use crate::name::{Name, Profile};
+use crate::table::{check_all, table, MOST_ROWS, NO_ROW, ROW};
 use crate::tree::{Node, Path};
 
 /// Kind of an entry: the left tree gets the right one's subtree, or loses its own.
@@ -75,15 +76,19 @@ impl Outcome {
 
 #[derive(Clone, Copy, PartialEq, Eq)]
 enum Decision {
+    /// A folder on both sides, which goes by its entries.
+    Folders,
     Agreed,
     LeftGets,
     RightGets,
     Clash,
 }
 
-/// The first line that fits, at a relevant path that is not a folder on both sides.
+/// The first line that fits, at a relevant path.
 fn decide(o: Option<&Node>, l: Option<&Node>, r: Option<&Node>) -> Decision {
-    if l == r {
+    if l.is_some_and(Node::is_folder) && r.is_some_and(Node::is_folder) {
+        Decision::Folders
+    } else if l == r {
         Decision::Agreed
     } else if l == o {
         Decision::LeftGets
@@ -95,10 +100,15 @@ fn decide(o: Option<&Node>, l: Option<&Node>, r: Option<&Node>) -> Decision {
 }
 
 /// Reconciles three tables within the lent rooms.
-pub fn reconcile(archive: &[u32], left: &[u32], right: &[u32], rooms: Rooms) -> Answer<Outcome> {
-    let o = check_side(archive, ARCHIVE)?;
-    let l = check_side(left, LEFT)?;
-    let r = check_side(right, RIGHT)?;
+pub fn reconcile(
+    profile: Profile,
+    archive: &[u32],
+    left: &[u32],
+    right: &[u32],
+    rooms: Rooms,
+) -> Answer<Outcome> {
+    let given = [(ARCHIVE, archive), (LEFT, left), (RIGHT, right)];
+    let [o, l, r] = check_all(profile, given)?;
     let outcome = settle(&o, &l, &r);
     let counts = outcome.counts().map(|count| count as usize);
     for (side, count, room) in [
@@ -117,35 +127,15 @@ pub fn reconcile(archive: &[u32], left: &[u32], right: &[u32], rooms: Rooms) -> 
     Ok(outcome)
 }
 
-/// Goes through the relevant paths of the three trees in preorder.
 fn settle(o: &Node, l: &Node, r: &Node) -> Outcome {
-    let (left_rows, right_rows) = (row_numbers(l), row_numbers(r));
-    let row_in = |rows: &BTreeMap<Path, u32>, path: &Path| *rows.get(path).unwrap_or(&NO_ROW);
-    let (mut new_o, mut new_l, mut new_r) = (Node::default(), l.clone(), r.clone());
-    let (mut list, mut tally) = (Vec::new(), [0; 3]);
-    let all: BTreeSet<Path> = [o, l, r].iter().flat_map(|tree| tree.paths()).collect();
-    for path in all.iter().filter(|path| relevant(path, l, r)) {
-        let (at_o, at_l, at_r) = (o.at(path), l.at(path), r.at(path));
-        if l.folder_at(path) && r.folder_at(path) {
-            new_o.put(path, Some(Node::default()));
-            continue;
-        }
-        let decision = decide(at_o, at_l, at_r);
-        let (kind, kept) = match decision {
-            Decision::Agreed => (0, at_l),
-            Decision::LeftGets => (LEFT_GETS, at_r),
-            Decision::RightGets => (RIGHT_GETS, at_l),
-            Decision::Clash => (CLASH, at_o),
-        };
-        new_o.put(path, kept.cloned());
-        match decision {
-            Decision::Agreed => continue,
-            Decision::LeftGets => new_l.put(path, at_r.cloned()),
-            Decision::RightGets => new_r.put(path, at_l.cloned()),
-            Decision::Clash => {}
-        }
-        list.push([kind, row_in(&left_rows, path), row_in(&right_rows, path)]);
-        tally[kind as usize - 1] += 1;
+    let decided = decisions(o, l, r);
+    let new_l = new_side(&decided, Decision::LeftGets, l, r);
+    let new_r = new_side(&decided, Decision::RightGets, r, l);
+    let new_o = new_archive(&decided, o, &new_l);
+    let list = listed(&decided, l, r);
+    let mut tally = [0; 3];
+    for [kind, ..] in &list {
+        tally[*kind as usize - 1] += 1;
     }
     Outcome {
         archive: table(&new_o),
@@ -156,8 +146,67 @@ fn settle(o: &Node, l: &Node, r: &Node) -> Outcome {
     }
 }
 
+/// The relevant paths of the three trees in preorder, each with what is decided there.
+fn decisions(o: &Node, l: &Node, r: &Node) -> Vec<(Path, Decision)> {
+    let all: BTreeSet<Path> = [o, l, r].iter().flat_map(|tree| tree.paths()).collect();
+    all.into_iter()
+        .filter(|path| relevant(path, l, r))
+        .map(|path| {
+            let decision = decide(o.at(&path), l.at(&path), r.at(&path));
+            (path, decision)
+        })
+        .collect()
+}
+
+/// A side after the moves to it. It keeps its spelling of every path that it had, and has the
+/// other's of the new ones.
+fn new_side(decided: &[(Path, Decision)], gets: Decision, side: &Node, other: &Node) -> Node {
+    let mut new = side.clone();
+    for (path, _) in decided.iter().filter(|(_, decision)| *decision == gets) {
+        new.put(path, other.at(path).cloned());
+    }
+    new.spelled_as(&[side, other])
+}
+
+/// The new archive: what the old one has at and beneath each clash, and what the new left has
+/// elsewhere, spelled as it is where it is taken from.
+fn new_archive(decided: &[(Path, Decision)], old: &Node, left: &Node) -> Node {
+    let mut new = Node::default();
+    for (path, decision) in decided {
+        let from = match decision {
+            Decision::Clash => old,
+            _ => left,
+        };
+        let given = match decision {
+            Decision::Folders => Some(Node::default()),
+            _ => from.at(path).cloned(),
+        };
+        if let Some(spelled) = from.spelled(path) {
+            new.put(&spelled, given);
+        }
+    }
+    new
+}
+
+/// The list: kinds and the rows of the two tables.
+fn listed(decided: &[(Path, Decision)], l: &Node, r: &Node) -> Vec<Entry> {
+    let (left, right) = (row_numbers(l), row_numbers(r));
+    let row_in = |rows: &BTreeMap<Path, u32>, path: &Path| *rows.get(path).unwrap_or(&NO_ROW);
+    let mut list = Vec::new();
+    for (path, decision) in decided {
+        let kind = match decision {
+            Decision::Folders | Decision::Agreed => continue,
+            Decision::LeftGets => LEFT_GETS,
+            Decision::RightGets => RIGHT_GETS,
+            Decision::Clash => CLASH,
+        };
+        list.push([kind, row_in(&left, path), row_in(&right, path)]);
+    }
+    list
+}
+
 /// The root, and every path whose parent is relevant and a folder on both sides.
-fn relevant(path: &[Vec<u8>], l: &Node, r: &Node) -> bool {
+fn relevant(path: &[Name], l: &Node, r: &Node) -> bool {
     match path.split_last() {
         None => true,
         Some((_, parent)) => relevant(parent, l, r) && l.folder_at(parent) && r.folder_at(parent),

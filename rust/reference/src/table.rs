@@ -1,6 +1,9 @@
 //! Tables of words: reading one into a tree, and writing a tree as one.
 
+use std::cmp::Ordering;
+
 use crate::answer::{Answer, Refusal, ARCHIVE};
+use crate::name::{Name, Profile};
 use crate::tree::{Entries, Node, Path};
 
 /// Words in a row.
@@ -38,44 +41,62 @@ pub fn good_name(name: &[u8]) -> bool {
 }
 
 /// Checks a table on its own, which is side 1, and gives its tree.
-pub fn check(table: &[u32]) -> Answer<Node> {
-    check_side(table, ARCHIVE)
+pub fn check(profile: Profile, table: &[u32]) -> Answer<Node> {
+    let [tree] = check_all(profile, [(ARCHIVE, table)])?;
+    Ok(tree)
 }
 
-/// Checks a table that is the given side of a call, and gives its tree.
-pub fn check_side(table: &[u32], side: u32) -> Answer<Node> {
+/// Checks the tables of a call, each with its side, and gives their trees: 1 and 2 of each table, and
+/// only then 16 of each.
+pub fn check_all<const N: usize>(profile: Profile, given: [(u32, &[u32]); N]) -> Answer<[Node; N]> {
+    let mut taken = Vec::new();
+    for (side, table) in given {
+        taken.push((side, rows_of(profile, side, table)?));
+    }
+    for (side, open) in &taken {
+        if let Some(row) = open.twin {
+            return Err(Refusal::new(16, *side, row));
+        }
+    }
+    let mut trees = taken.into_iter().map(|(_, open)| open.close_all());
+    Ok(given.map(|_| trees.next().expect("a tree for each table")))
+}
+
+/// All rows of a table, unless it is due 1 or 2.
+fn rows_of(profile: Profile, side: u32, table: &[u32]) -> Answer<Open> {
     let rows = table.len() / ROW;
     if !table.len().is_multiple_of(ROW) || rows == 0 || rows > MOST_ROWS {
         return Err(Refusal::new(1, side, 0));
     }
     let mut open = Open::default();
-    for (number, row) in table.chunks(ROW).enumerate() {
-        let taken = if number == 0 {
-            open.take_root(row)
-        } else {
-            open.take(row)
+    for (number, row) in (0..).zip(table.chunks(ROW)) {
+        let taken = match number {
+            0 => open.take_root(profile, row),
+            _ => open.take(profile, number, row),
         };
-        taken.ok_or(Refusal::new(2, side, number as u32))?;
+        taken.ok_or(Refusal::new(2, side, number))?;
     }
-    Ok(open.close_all())
+    Ok(open)
 }
 
 /// The folders that the last row stands in, itself included if it is one, the root first.
 #[derive(Default)]
 struct Open {
-    folders: Vec<(Vec<u8>, Entries)>,
+    folders: Vec<(Name, Entries)>,
+    /// The first row whose name is its sibling's, where letter case is ignored.
+    twin: Option<u32>,
 }
 
 impl Open {
     /// Opens the root, if the row is a root's.
-    fn take_root(&mut self, row: &[u32]) -> Option<()> {
+    fn take_root(&mut self, profile: Profile, row: &[u32]) -> Option<()> {
         row.iter().all(|&word| word == 0).then(|| {
-            self.folders.push((Vec::new(), Entries::new()));
+            self.folders.push((profile.name(b""), Entries::new()));
         })
     }
 
     /// Takes a row that is not the first, if it can follow the rows taken before.
-    fn take(&mut self, row: &[u32]) -> Option<()> {
+    fn take(&mut self, profile: Profile, number: u32, row: &[u32]) -> Option<()> {
         let depth = row[0] as usize;
         // One deeper than the row before only fits if that row opened a folder.
         if depth == 0 || depth > DEEPEST || depth > self.folders.len() {
@@ -85,14 +106,16 @@ impl Open {
             self.close();
         }
         let name = name_bytes(&row[2..10]).filter(|name| good_name(name))?;
+        let name = profile.name(&name);
         let siblings = &mut self.folders.last_mut()?.1;
         // The rows before are in order, so the last key is the sibling before.
-        if siblings
-            .keys()
-            .next_back()
-            .is_some_and(|last| *last >= name)
-        {
-            return None;
+        let before = siblings.keys().next_back();
+        match before.map(|before| before.cmp(&name)) {
+            None | Some(Ordering::Less) => {}
+            Some(Ordering::Equal) if profile == Profile::Folded => {
+                self.twin = self.twin.or(Some(number));
+            }
+            Some(_) => return None,
         }
         match row[1] {
             0 if row[10..].iter().all(|&word| word == 0) => {
@@ -130,7 +153,7 @@ fn file_of(row: &[u32]) -> Node {
     }
 }
 
-/// The table of a tree.
+/// The table of a tree, its names spelled as they are there.
 pub fn table(tree: &Node) -> Vec<u32> {
     let mut words = Vec::new();
     put_rows(&mut words, 0, b"", tree);
@@ -149,17 +172,17 @@ fn put_rows(words: &mut Vec<u32>, depth: u32, name: &[u8], node: &Node) {
         Node::Folder(entries) => {
             words.extend([0; 10]);
             for (name, node) in entries {
-                put_rows(words, depth + 1, name, node);
+                put_rows(words, depth + 1, name.spelled(), node);
             }
         }
     }
 }
 
-/// The path of a row of a good table.
+/// The path of a row of a good table, as the table spells it.
 ///
 /// # Panics
 /// If the table is refused or has no such row.
-pub fn path_of(table: &[u32], row: u32) -> Path {
-    let tree = check(table).expect("a good table");
+pub fn path_of(profile: Profile, table: &[u32], row: u32) -> Path {
+    let tree = check(profile, table).expect("a good table");
     tree.paths().swap_remove(row as usize)
 }

@@ -2,15 +2,21 @@
 
 use std::collections::BTreeMap;
 
-/// A folder's entries by name. The map's order is the order of sibling rows.
-pub type Entries = BTreeMap<Vec<u8>, Node>;
+use crate::name::Name;
+
+/// A folder's entries by name. The map's order is the order of sibling rows in the names' profile.
+///
+/// An entry that is put in the place of another keeps the other's spelling: so does the map.
+pub type Entries = BTreeMap<Name, Node>;
 
 /// A path's names from the root down; the root's path is empty.
 ///
 /// Paths in the order of `Vec` are in preorder: a folder comes before what is in it.
-pub type Path = Vec<Vec<u8>>;
+pub type Path = Vec<Name>;
 
 /// A file or a folder. A whole tree is the node of its root, which is a folder.
+///
+/// Two are equal whatever the spelling of their names; their tables tell the spelling too.
 #[derive(Clone, Debug, PartialEq, Eq)]
 pub enum Node {
     /// A file; equal to another when both size and digest are.
@@ -45,7 +51,7 @@ impl Node {
     }
 
     /// What is at a path, if anything.
-    pub fn at(&self, path: &[Vec<u8>]) -> Option<&Node> {
+    pub fn at(&self, path: &[Name]) -> Option<&Node> {
         match (path.split_first(), self) {
             (None, _) => Some(self),
             (Some((name, rest)), Node::Folder(entries)) => entries.get(name)?.at(rest),
@@ -53,16 +59,51 @@ impl Node {
         }
     }
 
+    /// The entry of a name, with its name as it is spelled here.
+    pub fn entry(&self, name: &Name) -> Option<(&Name, &Node)> {
+        match self {
+            Node::File { .. } => None,
+            Node::Folder(entries) => entries.get_key_value(name),
+        }
+    }
+
+    /// A path as this tree spells it, if it has the path.
+    pub fn spelled(&self, path: &[Name]) -> Option<Path> {
+        let mut names = Path::new();
+        let mut node = self;
+        for name in path {
+            let (spelled, beneath) = node.entry(name)?;
+            names.push(spelled.clone());
+            node = beneath;
+        }
+        Some(names)
+    }
+
+    /// The same node with each path spelled as in the first of the given that has it, whatever they
+    /// have there; a path that none of them has is spelled as it was.
+    pub fn spelled_as(&self, given: &[&Node]) -> Node {
+        let Node::Folder(entries) = self else {
+            return self.clone();
+        };
+        let spell = |(name, node): (&Name, &Node)| {
+            let found: Vec<_> = given.iter().filter_map(|tree| tree.entry(name)).collect();
+            let beneath: Vec<&Node> = found.iter().map(|entry| entry.1).collect();
+            let name = found.first().map_or(name, |entry| entry.0);
+            (name.clone(), node.spelled_as(&beneath))
+        };
+        Node::Folder(entries.iter().map(spell).collect())
+    }
+
     /// Whether a path holds a folder.
-    pub fn folder_at(&self, path: &[Vec<u8>]) -> bool {
+    pub fn folder_at(&self, path: &[Name]) -> bool {
         self.at(path).is_some_and(Node::is_folder)
     }
 
-    /// Makes what is at a path be the given, absence included.
+    /// Makes what is at a path be the given, absence included. A name that is there keeps its spelling.
     ///
     /// # Panics
     /// If the path is the root's and the given is absent, or its parent is not a folder.
-    pub fn put(&mut self, path: &[Vec<u8>], given: Option<Node>) {
+    pub fn put(&mut self, path: &[Name], given: Option<Node>) {
         let Some((name, rest)) = path.split_first() else {
             *self = given.expect("a root is never removed");
             return;

@@ -3,6 +3,7 @@
 mod common;
 
 use common::{path, rows};
+use reference::Profile::Exact;
 use reference::{
     make_move, path_of, plan, reconcile, slots, table, write, Outcome, Rooms, CLASH, LEFT_GETS,
     MOST_BYTES, NO_ROW, RIGHT_GETS,
@@ -96,8 +97,8 @@ const CASES: [Case; 11] = [
 fn listed(outcome: &Outcome, left: &[u32], right: &[u32]) -> Vec<(u32, reference::Path)> {
     let mut found = Vec::new();
     for [kind, left_row, right_row] in &outcome.list {
-        let on_left = (*left_row != NO_ROW).then(|| path_of(left, *left_row));
-        let on_right = (*right_row != NO_ROW).then(|| path_of(right, *right_row));
+        let on_left = (*left_row != NO_ROW).then(|| path_of(Exact, left, *left_row));
+        let on_right = (*right_row != NO_ROW).then(|| path_of(Exact, right, *right_row));
         if on_left.is_some() && on_right.is_some() {
             assert_eq!(on_left, on_right);
         }
@@ -110,7 +111,7 @@ fn listed(outcome: &Outcome, left: &[u32], right: &[u32]) -> Vec<(u32, reference
 fn c1_to_c11() {
     for case in CASES {
         let [o, l, r] = case.given.map(rows);
-        let outcome = reconcile(&o, &l, &r, Rooms::AMPLE).unwrap();
+        let outcome = reconcile(Exact, &o, &l, &r, Rooms::AMPLE).unwrap();
         let due: Vec<_> = case
             .list
             .iter()
@@ -135,7 +136,7 @@ fn c1_to_c11() {
 fn c1_to_c11_new_sides() {
     for case in CASES {
         let [o, l, r] = case.given.map(rows);
-        let outcome = reconcile(&o, &l, &r, Rooms::AMPLE).unwrap();
+        let outcome = reconcile(Exact, &o, &l, &r, Rooms::AMPLE).unwrap();
         if outcome.tally[2] > 0 {
             assert_eq!((&outcome.left, &outcome.right), (&l, &r), "{}", case.name);
         } else {
@@ -148,11 +149,11 @@ fn c1_to_c11_new_sides() {
 #[test]
 fn c2_and_c11_in_numbers() {
     let [o, l, r] = CASES[1].given.map(rows);
-    let outcome = reconcile(&o, &l, &r, Rooms::AMPLE).unwrap();
+    let outcome = reconcile(Exact, &o, &l, &r, Rooms::AMPLE).unwrap();
     assert_eq!(outcome.list_words(), [2, 1, NO_ROW]);
     assert_eq!(outcome.counts(), [2, 2, 2, 1]);
     let [o, l, r] = CASES[10].given.map(rows);
-    let outcome = reconcile(&o, &l, &r, Rooms::AMPLE).unwrap();
+    let outcome = reconcile(Exact, &o, &l, &r, Rooms::AMPLE).unwrap();
     assert_eq!(outcome.list_words(), [2, 2, NO_ROW, 1, NO_ROW, 2]);
     assert_eq!(outcome.counts(), [4, 4, 4, 2]);
     assert_eq!(outcome.tally, [1, 1, 0]);
@@ -167,21 +168,21 @@ const C12: [Listed; 3] = [
 fn printed(tables: &[Vec<u32>; 3]) -> String {
     let texts: Vec<_> = tables
         .iter()
-        .map(|table| write(table, MOST_BYTES).unwrap())
+        .map(|table| write(Exact, table, MOST_BYTES).unwrap())
         .collect();
-    plan([Some(&texts[0]), Some(&texts[1]), Some(&texts[2])])
+    plan(Exact, [Some(&texts[0]), Some(&texts[1]), Some(&texts[2])])
 }
 
 #[test]
 fn c12_and_c13() {
     let mut tables = C12.map(rows);
     assert_eq!(printed(&tables), "! ./L/d1\n< ./L/d2\n< ./R/d1\n= 2 0 1\n");
-    let before = reconcile(&tables[0], &tables[1], &tables[2], Rooms::AMPLE).unwrap();
+    let before = reconcile(Exact, &tables[0], &tables[1], &tables[2], Rooms::AMPLE).unwrap();
     let (names, depth) = slots(&path("L/d2"));
     let room = tables[1].len();
-    tables[1] = make_move(&tables[1], &tables[2], &names, depth, room).unwrap();
+    tables[1] = make_move(Exact, &tables[1], &tables[2], &names, depth, room).unwrap();
     assert_eq!(printed(&tables), "! ./L/d1\n< ./R/d1\n= 1 0 1\n");
-    let after = reconcile(&tables[0], &tables[1], &tables[2], Rooms::AMPLE).unwrap();
+    let after = reconcile(Exact, &tables[0], &tables[1], &tables[2], Rooms::AMPLE).unwrap();
     assert_eq!((before.counts()[1], after.counts()[1]), (6, 6));
     assert_eq!(before.left, after.left);
     assert_eq!(before.right, after.right);
@@ -191,30 +192,36 @@ fn c12_and_c13() {
 #[test]
 fn program_refusals() {
     let lone: &[u8] = b". type=dir\n";
-    assert_eq!(plan([Some(lone); 3]), "= 0 0 0\n");
-    assert_eq!(plan([None, None, None]), "refused archive 6 0\n");
-    assert_eq!(plan([Some(lone), None, Some(b"x")]), "refused left 6 0\n");
+    assert_eq!(plan(Exact, [Some(lone); 3]), "= 0 0 0\n");
+    assert_eq!(plan(Exact, [None, None, None]), "refused archive 6 0\n");
     assert_eq!(
-        plan([Some(lone), Some(lone), Some(b"")]),
+        plan(Exact, [Some(lone), None, Some(b"x")]),
+        "refused left 6 0\n"
+    );
+    assert_eq!(
+        plan(Exact, [Some(lone), Some(lone), Some(b"")]),
         "refused right 12 0\n"
     );
     let crowd = |rows| reference::generate::crowd(rows);
     assert_eq!(
-        plan([Some(&crowd(128)), Some(&crowd(128)), Some(&crowd(128))]),
+        plan(
+            Exact,
+            [Some(&crowd(128)), Some(&crowd(128)), Some(&crowd(128))]
+        ),
         "= 0 0 0\n"
     );
     // Two lines come first, then two for each row but the root.
     assert_eq!(
-        plan([Some(lone), Some(lone), Some(&crowd(129))]),
+        plan(Exact, [Some(lone), Some(lone), Some(&crowd(129))]),
         "refused right 3 257\n"
     );
     let long = |bytes| reference::generate::padded(lone, bytes);
     assert_eq!(
-        plan([Some(&long(16_384)), Some(lone), Some(lone)]),
+        plan(Exact, [Some(&long(16_384)), Some(lone), Some(lone)]),
         "= 0 0 0\n"
     );
     assert_eq!(
-        plan([Some(&long(16_385)), Some(lone), Some(lone)]),
+        plan(Exact, [Some(&long(16_385)), Some(lone), Some(lone)]),
         "refused archive 6 0\n"
     );
 }

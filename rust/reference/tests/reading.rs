@@ -1,6 +1,7 @@
 //! Reading listings: the paper's sentences one by one.
 
 use reference::generate;
+use reference::Profile::Exact;
 use reference::{read, MOST_BYTES, MOST_ROWS, ROW};
 
 const AMPLE: usize = MOST_ROWS * ROW;
@@ -20,7 +21,7 @@ fn said_bytes(text: &[u8]) -> (u32, u32) {
             _ => full.push(*byte),
         }
     }
-    match read(&full, AMPLE) {
+    match read(Exact, &full, AMPLE) {
         Ok(table) => (0, (table.len() / ROW) as u32),
         Err(refusal) => {
             assert_eq!(refusal.side, 0);
@@ -262,7 +263,7 @@ fn limits_of_rows_depth_and_bytes() {
 #[test]
 fn room_comes_last_on_its_line() {
     let number = |text: &[u8], room| {
-        let answer = read(text, room);
+        let answer = read(Exact, text, room);
         answer
             .map(|table| table.len())
             .map_err(|no| (no.number, no.side, no.place))

@@ -1,4 +1,5 @@
-//! Runs the built program syncplan in folders of its own and looks at all that it prints.
+//! Runs the built program syncplan in folders of its own, in both profiles, and looks at all that it
+//! prints.
 //!
 //! The program is target/bin/syncplan of the repository, which `rt check syncplan` writes. The
 //! variable SYNCPLAN names another one.
@@ -7,8 +8,10 @@
 
 mod shape;
 
+pub use reference::Profile;
 pub use shape::check_shape;
 
+use reference::PROFILES;
 use std::path::{Path, PathBuf};
 use std::process::{Command, Output, Stdio};
 use std::sync::atomic::{AtomicUsize, Ordering};
@@ -23,6 +26,17 @@ pub const SIDES: [&str; 3] = ["archive", "left", "right"];
 
 /// What stands in the place of each of the three files; nothing if there is no file.
 pub type Files = [Option<Vec<u8>>; 3];
+
+/// The argument with which letter case is ignored.
+pub const IGNORE_CASE: &str = "--ignore-case";
+
+/// The program's arguments in a profile.
+pub fn arguments(profile: Profile) -> &'static [&'static str] {
+    match profile {
+        Profile::Exact => &[],
+        Profile::Folded => &[IGNORE_CASE],
+    }
+}
 
 /// The program that is tried.
 ///
@@ -99,10 +113,16 @@ impl Folder {
         command
     }
 
-    /// Runs the program, which must print just what is due.
-    pub fn due(&self, due: &str) {
-        let output = self.command().output().expect("the program starts");
-        check(&output, due);
+    /// Runs the program in a profile, which must print just what is due.
+    pub fn due(&self, profile: Profile, due: &str) {
+        let mut command = self.command();
+        command.args(arguments(profile));
+        check(&command.output().expect("the program starts"), due);
+    }
+
+    /// Runs the program in both profiles, which must print the same.
+    pub fn due_in_both(&self, due: &str) {
+        PROFILES.iter().for_each(|profile| self.due(*profile, due));
     }
 }
 
@@ -132,10 +152,17 @@ pub fn check(output: &Output, due: &str) {
 }
 
 /// Runs the program on three files in a folder of their own, and compares what it prints.
-pub fn due(files: &Files, due: &str) {
+pub fn due(profile: Profile, files: &Files, due: &str) {
     let folder = Folder::new();
     folder.put_all(files);
-    folder.due(due);
+    folder.due(profile, due);
+}
+
+/// The same in both profiles, for files in which letter case makes no difference.
+pub fn due_in_both(files: &Files, due: &str) {
+    let folder = Folder::new();
+    folder.put_all(files);
+    folder.due_in_both(due);
 }
 
 /// A listing written short: `@` and a digit stand for the words of a file of that content.

@@ -1,7 +1,7 @@
 //! Document 01's cases by name, printed as the document says.
 
 use std::fs;
-use syncplan_tests::{due, texts, Folder};
+use syncplan_tests::{due_in_both, texts, Folder};
 
 const ARCHIVE: &str = ". type=dir\nL type=dir\nd1 @1\nd2 @2\n..\nR type=dir\n";
 const LEFT: &str = ". type=dir\nL type=dir\nd1 @3\nd2 @2\nd3 @4\n..\nR type=dir\n";
@@ -9,7 +9,7 @@ const RIGHT: &str = ". type=dir\nL type=dir\nd1 @5\nd3 @4\n..\nR type=dir\nd1 @6
 
 #[test]
 fn c12() {
-    due(
+    due_in_both(
         &texts([ARCHIVE, LEFT, RIGHT]),
         "! ./L/d1\n< ./L/d2\n< ./R/d1\n= 2 0 1\n",
     );
@@ -18,7 +18,7 @@ fn c12() {
 #[test]
 fn c13() {
     let left = ". type=dir\nL type=dir\nd1 @3\nd3 @4\n..\nR type=dir\n";
-    due(
+    due_in_both(
         &texts([ARCHIVE, left, RIGHT]),
         "! ./L/d1\n< ./R/d1\n= 1 0 1\n",
     );
@@ -58,7 +58,7 @@ const CASES: [[&str; 4]; 11] = [
 fn c1_to_c11() {
     for [archive, left, right, printed] in CASES {
         let files = [archive, left, right].map(|tree| format!(". type=dir\n{tree}"));
-        due(&texts([&files[0], &files[1], &files[2]]), printed);
+        due_in_both(&texts([&files[0], &files[1], &files[2]]), printed);
     }
 }
 
@@ -77,7 +77,7 @@ fn c1_to_c11_exchanged() {
             _ => format!("{line}\n"),
         });
         let exchanged: String = lines.collect();
-        due(&texts([&files[0], &files[1], &files[2]]), &exchanged);
+        due_in_both(&texts([&files[0], &files[1], &files[2]]), &exchanged);
     }
 }
 
@@ -88,7 +88,7 @@ fn the_folder_stays_as_it_was() {
     let files = texts([ARCHIVE, LEFT, RIGHT]);
     folder.put_all(&files);
     for _ in 0..3 {
-        folder.due("! ./L/d1\n< ./L/d2\n< ./R/d1\n= 2 0 1\n");
+        folder.due_in_both("! ./L/d1\n< ./L/d2\n< ./R/d1\n= 2 0 1\n");
         for (side, text) in files.iter().enumerate() {
             assert_eq!(fs::read(folder.file(side)).ok(), *text);
         }

@@ -1,8 +1,9 @@
 //! The largest plans that three files can give, all of 128 rows and 16,384 bytes.
 
 use reference::generate::padded;
+use reference::PROFILES;
 use std::path::Path;
-use syncplan_tests::{check, Files, Folder, MOST_BYTES, MOST_ROWS};
+use syncplan_tests::{arguments, check, Files, Folder, MOST_BYTES, MOST_ROWS};
 
 /// The plan must fit into so many bytes.
 const ROOM: usize = 1_048_576;
@@ -41,13 +42,16 @@ fn due_with_little_stack(files: &Files, printed: &str) {
     assert!(printed.len() <= ROOM);
     let folder = Folder::new();
     folder.put_all(files);
-    folder.due(printed);
-    let mut command = folder.command_of(Path::new("/bin/sh"));
-    let program = folder.command().get_program().to_os_string();
-    command
-        .args(["-c", "ulimit -s 2048 && exec \"$0\""])
-        .arg(program);
-    check(&command.output().expect("a shell starts"), printed);
+    folder.due_in_both(printed);
+    for profile in PROFILES {
+        let mut command = folder.command_of(Path::new("/bin/sh"));
+        let program = folder.command().get_program().to_os_string();
+        command
+            .args(["-c", "ulimit -s 2048 && exec \"$0\" \"$@\""])
+            .arg(program)
+            .args(arguments(profile));
+        check(&command.output().expect("a shell starts"), printed);
+    }
 }
 
 /// Fifteen folders that both sides have, each of which has 112 files more that the other has not.

@@ -3,7 +3,7 @@
 use reference::generate::{crowd, padded};
 use std::fs;
 use std::os::unix::fs::symlink;
-use syncplan_tests::{due, text, Files, Folder, MOST_BYTES, MOST_ROWS, SIDES};
+use syncplan_tests::{due_in_both, text, Files, Folder, MOST_BYTES, MOST_ROWS, SIDES};
 
 const GOOD: &str = ". type=dir\na @1\n";
 
@@ -17,13 +17,13 @@ fn with(side: usize, given: Option<&[u8]>) -> Files {
 /// What is printed with the given in each of the three places, of which the name is put for `@`.
 fn due_on_each(given: Option<&[u8]>, printed: &str) {
     for (side, name) in SIDES.iter().enumerate() {
-        due(&with(side, given), &printed.replace('@', name));
+        due_in_both(&with(side, given), &printed.replace('@', name));
     }
 }
 
 #[test]
 fn no_file() {
-    due(&[None, None, None], "refused archive 6 0\n");
+    due_in_both(&[None, None, None], "refused archive 6 0\n");
     due_on_each(None, "refused @ 6 0\n");
 }
 
@@ -38,9 +38,9 @@ fn a_folder_for_a_file() {
         let folder = Folder::new();
         folder.put_all(&with(side, None));
         fs::create_dir(folder.file(side)).unwrap();
-        folder.due(&format!("refused {name} 6 0\n"));
+        folder.due_in_both(&format!("refused {name} 6 0\n"));
         fs::write(folder.file(side).join("archive.mtree"), GOOD).unwrap();
-        folder.due(&format!("refused {name} 6 0\n"));
+        folder.due_in_both(&format!("refused {name} 6 0\n"));
     }
 }
 
@@ -50,9 +50,9 @@ fn links_to_files() {
         let folder = Folder::new();
         folder.put_all(&with(side, None));
         symlink("elsewhere", folder.file(side)).unwrap();
-        folder.due(&format!("refused {name} 6 0\n"));
+        folder.due_in_both(&format!("refused {name} 6 0\n"));
         fs::write(folder.path().join("elsewhere"), text(GOOD)).unwrap();
-        folder.due("= 0 0 0\n");
+        folder.due_in_both("= 0 0 0\n");
     }
 }
 
@@ -65,7 +65,7 @@ fn other_names() {
     }
     folder.put(1, Some(&text(GOOD)));
     folder.put(2, Some(&text(GOOD)));
-    folder.due("refused archive 6 0\n");
+    folder.due_in_both("refused archive 6 0\n");
 }
 
 /// The text with many comments at its end.
@@ -87,8 +87,8 @@ fn most_bytes() {
             assert_eq!(full.len(), length);
             let lone = text(". type=dir\n");
             let files = [lone.clone(), lone, full.clone()].map(Some);
-            due(&files, printed[0]);
-            due(&[(); 3].map(|()| Some(full.clone())), printed[1]);
+            due_in_both(&files, printed[0]);
+            due_in_both(&[(); 3].map(|()| Some(full.clone())), printed[1]);
         }
         for length in [MOST_BYTES + 1, MOST_BYTES + 2, 65_536, 65_537, 1 << 20] {
             due_on_each(Some(&pad(&alone, length)), "refused @ 6 0\n");
@@ -112,7 +112,7 @@ fn too_long_whatever_is_in_it() {
 
 #[test]
 fn most_rows_of_folders() {
-    due(&[(); 3].map(|()| Some(crowd(MOST_ROWS))), "= 0 0 0\n");
+    due_in_both(&[(); 3].map(|()| Some(crowd(MOST_ROWS))), "= 0 0 0\n");
     due_on_each(Some(&crowd(MOST_ROWS + 1)), "refused @ 3 257\n");
     due_on_each(Some(&crowd(1000)), "refused @ 3 257\n");
 }
@@ -130,7 +130,7 @@ fn most_rows_of_files() {
     let lone = text(". type=dir\n");
     let listed: String = (0..127).map(|row| format!("> ./{row:03}\n")).collect();
     let printed = format!("{listed}= 0 127 0\n");
-    due(&[lone.clone(), full.clone(), lone].map(Some), &printed);
+    due_in_both(&[lone.clone(), full.clone(), lone].map(Some), &printed);
     due_on_each(Some(&files(MOST_ROWS, "")), "refused @ 3 129\n");
     due_on_each(Some(&files(MOST_ROWS, "\x01\n")), "refused @ 3 129\n");
 }
@@ -162,7 +162,7 @@ fn too_deep_at_the_129th_row() {
     let mut short = String::from("/set type=dir\n.\n");
     (0..111).for_each(|row| short.push_str(&format!("f{row}\n..\n")));
     (0..16).for_each(|row| short.push_str(&format!("d{row}\n")));
-    due(
+    due_in_both(
         &[(); 3].map(|()| Some(short.clone().into_bytes())),
         "= 0 0 0\n",
     );
@@ -183,15 +183,15 @@ fn deepest() {
     let other = text(&format!(". type=dir\n{names}end @2\n"));
     let files = |given: [&Vec<u8>; 3]| given.map(|text| Some(text.clone()));
     let line = |mark: &str, counts: &str| format!("{mark} ./{path}end\n= {counts}\n");
-    due(&files([&folders, &folders, &one]), &line("<", "1 0 0"));
-    due(&files([&one, &one, &folders]), &line("<", "1 0 0"));
-    due(&files([&one, &other, &one]), &line(">", "0 1 0"));
-    due(&files([&folders, &one, &other]), &line("!", "0 0 1"));
-    due(&files([&one, &other, &other]), "= 0 0 0\n");
+    due_in_both(&files([&folders, &folders, &one]), &line("<", "1 0 0"));
+    due_in_both(&files([&one, &one, &folders]), &line("<", "1 0 0"));
+    due_in_both(&files([&one, &other, &one]), &line(">", "0 1 0"));
+    due_in_both(&files([&folders, &one, &other]), &line("!", "0 0 1"));
+    due_in_both(&files([&one, &other, &other]), "= 0 0 0\n");
     // From the top on where one side has none of it.
     let lone = text(". type=dir\n");
-    due(&files([&lone, &one, &lone]), "> ./n1\n= 0 1 0\n");
-    due(&files([&one, &other, &lone]), "! ./n1\n= 0 0 1\n");
+    due_in_both(&files([&lone, &one, &lone]), "> ./n1\n= 0 1 0\n");
+    due_in_both(&files([&one, &other, &lone]), "! ./n1\n= 0 0 1\n");
     let deeper = text(&format!(". type=dir\n{names}n16 type=dir\nend @1\n"));
     due_on_each(Some(&deeper), "refused @ 14 18\n");
 }

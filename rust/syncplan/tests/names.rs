@@ -1,5 +1,6 @@
-//! Names as the plan spells them, whichever way the files spell them.
+//! Names as the plan spells them, whichever way the files spell them, where every byte counts.
 
+use syncplan_tests::Profile::Exact;
 use syncplan_tests::{due, text, texts, Files};
 
 const LONE: &str = ". type=dir\n";
@@ -19,6 +20,7 @@ fn on_the_left(given: Vec<u8>) -> Files {
 fn names_that_need_escapes() {
     let left = ". type=dir\n\\377 @1\nx=y @1\na\\040b @1\n\\043x @1\n\\134057 @1\n~ @1\n\\012 @1\n\\001 @1\n\\011\\040 @1\n";
     due(
+        Exact,
         &texts([LONE, left, LONE]),
         concat!(
             "> ./\\001\n",
@@ -38,9 +40,10 @@ fn names_that_need_escapes() {
 #[test]
 fn names_with_dots() {
     let right = ". type=dir\n... @1\n.a @1\n..a @1\na. @1\n.\\056. @2\n";
-    due(&texts([LONE, LONE, right]), "refused right 13 6\n");
+    due(Exact, &texts([LONE, LONE, right]), "refused right 13 6\n");
     let right = ". type=dir\n... @1\n.a @1\n..a @1\na. @1\n-_. @1\n";
     due(
+        Exact,
         &texts([LONE, LONE, right]),
         "< ./-_.\n< ./...\n< ./..a\n< ./.a\n< ./a.\n= 5 0 0\n",
     );
@@ -53,6 +56,7 @@ fn paths_of_escaped_names() {
     let left = ". type=dir\n\\040 type=dir\n\\040 type=dir\n\\043 @1\n! @1\n";
     let right = ". type=dir\n\\040 type=dir\n\\040 type=dir\n\\043 @2\n..\n\\200 type=dir\n";
     due(
+        Exact,
         &texts([archive, left, right]),
         concat!(
             "> ./\\040/\\040/\\041\n",
@@ -79,7 +83,7 @@ fn every_byte() {
             let line = |byte: &u8| format!("> ./{before}{}\n", spelled(byte));
             let lines: String = all.iter().map(line).collect();
             let printed = format!("{lines}= 0 {} 0\n", all.len());
-            due(&on_the_left(listing(&words)), &printed);
+            due(Exact, &on_the_left(listing(&words)), &printed);
         }
     }
 }
@@ -92,7 +96,7 @@ fn plain_or_escaped() {
         .map(|byte| (char::from(byte).to_string(), format!("\\{byte:03o}")))
         .unzip();
     let files = [&plain, &escaped, &plain].map(|words| Some(listing(words)));
-    due(&files, "= 0 0 0\n");
+    due(Exact, &files, "= 0 0 0\n");
 }
 
 #[test]
@@ -101,17 +105,21 @@ fn names_of_32_bytes() {
     for byte in [1, 32, 35, 42, 92, 127, 128, 255] {
         let long = word(byte, 32);
         let printed = format!("> ./{long}\n= 0 1 0\n");
-        due(&on_the_left(listing(std::slice::from_ref(&long))), &printed);
+        due(
+            Exact,
+            &on_the_left(listing(std::slice::from_ref(&long))),
+            &printed,
+        );
         // A name that is a part of another comes before it.
         let both = [long.clone(), word(byte, 31)];
         let printed = format!("> ./{}\n> ./{long}\n= 0 2 0\n", both[1]);
-        due(&on_the_left(listing(&both)), &printed);
+        due(Exact, &on_the_left(listing(&both)), &printed);
         let over = listing(&[word(byte, 33)]);
-        due(&on_the_left(over), "refused left 8 2\n");
+        due(Exact, &on_the_left(over), "refused left 8 2\n");
     }
     let letters = word(b'a', 32);
     let printed = format!("> ./{}\n= 0 1 0\n", "a".repeat(32));
-    due(&on_the_left(listing(&[letters])), &printed);
+    due(Exact, &on_the_left(listing(&[letters])), &printed);
 }
 
 /// Bytes are compared without a sign, word by word and within a word.
@@ -131,6 +139,7 @@ fn order_of_names() {
     ];
     let words = words.map(String::from);
     due(
+        Exact,
         &on_the_left(listing(&words)),
         concat!(
             "> ./0\n> ./Z\n> ./aaaa\n> ./aaaaa\n> ./aaaa\\377\n> ./aaab\n> ./b\n",

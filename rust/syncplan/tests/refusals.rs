@@ -90,7 +90,7 @@ fn refused_everywhere(bytes: &[u8], number: u32, place: u32) {
             (0..side).for_each(|before| folder.put(before, Some(&text(GOOD))));
             folder.put(side, Some(bytes));
             (side + 1..3).for_each(|after| spoil(&folder, after, way));
-            folder.due(&format!("refused {name} {number} {place}\n"));
+            folder.due_in_both(&format!("refused {name} {number} {place}\n"));
             if side == 2 {
                 break;
             }
@@ -141,6 +141,6 @@ fn the_first_refused_file_is_named() {
             let short = if side < first { GOOD } else { ". type=no\n" };
             folder.put(side, Some(&text(short)));
         }
-        folder.due(&format!("refused {name} 10 1\n"));
+        folder.due_in_both(&format!("refused {name} 10 1\n"));
     }
 }

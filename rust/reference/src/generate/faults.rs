@@ -3,9 +3,10 @@
 use super::layout::{layout, Before, Layout, Line, What};
 use super::misplaced::{bad_place, too_deep, twice};
 use super::texts::padded;
-use super::words::{digest_word, extra, line_ends, name_word, size_word, spaced, type_word};
+use super::words::{extra, file_words, line_ends, name_word, spaced, type_word};
 use super::{trees, Random};
 use crate::listing::MOST_BYTES;
+use crate::name::Profile;
 use crate::table::{MOST_ROWS, ROW};
 use crate::tree::Node;
 
@@ -31,7 +32,7 @@ pub struct Faulty {
 ///
 /// # Panics
 /// If the number is not one of them.
-pub fn faulty(rng: &mut Random, tree: &Node, number: u32) -> Faulty {
+pub fn faulty(rng: &mut Random, profile: Profile, tree: &Node, number: u32) -> Faulty {
     let mut layout = layout(rng, tree);
     let mut room_words = MOST_ROWS * ROW + rng.below(ROW);
     let place = match number {
@@ -46,11 +47,11 @@ pub fn faulty(rng: &mut Random, tree: &Node, number: u32) -> Faulty {
             let bytes = bad_name(rng);
             inserted(&mut layout, at, vec![bytes])
         }
-        9 => bad_keyword(rng, &mut layout),
-        10 => bad_type(rng, &mut layout),
-        11 => bad_place(rng, &mut layout),
-        13 => twice(rng, &mut layout),
-        14 => too_deep(rng, &mut layout),
+        9 => bad_keyword(rng, profile, &mut layout),
+        10 => bad_type(rng, profile, &mut layout),
+        11 => bad_place(rng, profile, &mut layout),
+        13 => twice(rng, profile, &mut layout),
+        14 => too_deep(rng, profile, &mut layout),
         6 | 12 => 0,
         _ => panic!("reading never gives {number}"),
     };
@@ -157,35 +158,25 @@ fn bad_name(rng: &mut Random) -> Vec<u8> {
         _ => rng.pick(&bad).to_vec(),
     };
     let mut rest = extra(rng);
-    if rng.one_in(2) {
+    // A backslash at the line's end would join the next line.
+    if rng.one_in(2) || name.ends_with(b"\\") {
         rest.push(type_word(rng.one_in(2)));
     }
     spaced(rng, 6, &name, &rest)
 }
 
 /// A word for a name that is not listed yet.
-pub(super) fn fresh_name(rng: &mut Random, before: &Before) -> Vec<u8> {
+pub(super) fn fresh_name(rng: &mut Random, profile: Profile, before: &Before) -> Vec<u8> {
     let names = before.names.iter();
     let listed = names.map(|name| (name.clone(), Node::default())).collect();
-    let name = trees::fresh(rng, &listed);
-    name_word(rng, 6, &name)
+    let name = trees::fresh(rng, profile, &listed);
+    name_word(rng, 6, name.spelled())
 }
 
-/// The words of a good file.
-pub(super) fn file_words(rng: &mut Random) -> [Vec<u8>; 3] {
-    let size = rng.bits();
-    let digest = [(); 8].map(|()| rng.word());
-    [
-        type_word(false),
-        size_word(rng, size),
-        digest_word(rng, &digest),
-    ]
-}
-
-fn bad_keyword(rng: &mut Random, layout: &mut Layout) -> u32 {
+fn bad_keyword(rng: &mut Random, profile: Profile, layout: &mut Layout) -> u32 {
     let slash = rng.one_in(4);
     let at = spot(rng, layout, |before| slash || before.open > 0);
-    let mut first = fresh_name(rng, layout.before(at));
+    let mut first = fresh_name(rng, profile, layout.before(at));
     let [kind, size, digest] = file_words(rng);
     let mut rest = extra(rng);
     let word = |bytes: &[u8]| bytes.to_vec();
@@ -246,7 +237,7 @@ fn bad_digest(rng: &mut Random, mut digest: Vec<u8>) -> Vec<u8> {
     digest
 }
 
-fn bad_type(rng: &mut Random, layout: &mut Layout) -> u32 {
+fn bad_type(rng: &mut Random, profile: Profile, layout: &mut Layout) -> u32 {
     let bad: [&[u8]; 8] = [
         b"type",
         b"type=",
@@ -279,7 +270,7 @@ fn bad_type(rng: &mut Random, layout: &mut Layout) -> u32 {
     }
     let first = match way {
         3 => b"/set".to_vec(),
-        _ => fresh_name(rng, layout.before(at)),
+        _ => fresh_name(rng, profile, layout.before(at)),
     };
     if way != 3 {
         rest.extend([size.clone(), digest, size]);

@@ -4,7 +4,7 @@ use super::words::{
     comment, digest_word, extra, gap, line_ends, name_word, size_word, spaced, type_word,
 };
 use super::Random;
-use crate::tree::Node;
+use crate::tree::{Node, Path};
 
 /// What a line of a layout is.
 #[derive(Clone, Copy, Debug, PartialEq, Eq)]
@@ -33,7 +33,7 @@ pub struct Before {
     /// The default in force: true for dir, false for file.
     pub default: Option<bool>,
     /// The names already listed in the folder last opened.
-    pub names: Vec<Vec<u8>>,
+    pub names: Path,
 }
 
 /// A line, joined lines as one, with its line end.
@@ -111,7 +111,7 @@ struct Scribe<'r> {
     lines: Vec<Line>,
     first_default: Option<bool>,
     /// The default and the listed names of each open folder.
-    open: Vec<(Option<bool>, Vec<Vec<u8>>)>,
+    open: Vec<(Option<bool>, Path)>,
     root: bool,
 }
 
@@ -240,7 +240,7 @@ impl Scribe<'_> {
         for (i, (name, node)) in order.into_iter().enumerate() {
             self.noise();
             let words = self.keywords(node);
-            let first = name_word(self.rng, self.calm, name);
+            let first = name_word(self.rng, self.calm, name.spelled());
             self.line(What::Entry, &first, words);
             let (default, names) = self.open.last_mut().expect("a folder is open");
             names.push(name.clone());

@@ -1,9 +1,10 @@
-//! Random inputs for comparisons: trees, tables, rooms, paths and texts, all from a seed.
+//! Random inputs for comparisons: trees, tables, rooms, paths and texts of a profile, all from a seed.
 
 mod faults;
 mod layout;
 mod misplaced;
 mod shapes;
+mod spelling;
 mod tables;
 mod texts;
 mod trees;
@@ -12,6 +13,7 @@ mod words;
 pub use faults::{faulty, Faulty, FAULTS};
 pub use layout::{layout, listing, Before, Layout, Line, What};
 pub use shapes::{changed, shaped, strewn, Change, Shape, CHANGES, SHAPES};
+pub use spelling::{recased, respelled};
 pub use tables::{altered, damaged, entry, path, Damage, Damaged, DAMAGES};
 pub use texts::{crowd, hurt, padded, soup};
 pub use trees::{edited, file, name, three, tree, Three};

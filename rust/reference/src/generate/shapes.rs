@@ -1,7 +1,9 @@
 //! Trees of a given shape and size, large ones too, and sides that differ from them in one pass.
 
+use super::spelling::respelled;
 use super::trees::{self, Three};
 use super::Random;
+use crate::name::{Name, Profile};
 use crate::table::DEEPEST;
 use crate::tree::{Entries, Node};
 
@@ -33,33 +35,35 @@ pub enum Change {
 /// Every change.
 pub const CHANGES: [Change; 3] = [Change::Agreed, Change::Moves, Change::Clashes];
 
-/// A tree of the shape with exactly so many rows, at least one.
-pub fn shaped(rng: &mut Random, shape: Shape, rows: usize) -> Node {
+/// A tree of the shape with exactly so many rows, at least one. Its names are in small letters, or
+/// where letter case is ignored in any.
+pub fn shaped(rng: &mut Random, profile: Profile, shape: Shape, rows: usize) -> Node {
+    let name = |word: &str, number: usize| numbered(profile, word, number);
     let mut entries = Entries::new();
     let mut left = rows - 1;
     while left > 0 {
         let number = entries.len();
         match shape {
             Shape::Wide => {
-                entries.insert(numbered("day", number), content(rng));
+                entries.insert(name("day", number), content(rng));
                 left -= 1;
             }
             Shape::Deep => {
                 let rows = left.min(DEEPEST);
-                entries.insert(numbered("ear", number), chain(rng, rows));
+                entries.insert(name("ear", number), chain(rng, profile, rows));
                 left -= rows;
             }
             Shape::Mixed => {
-                entries.insert(numbered("ear", number), folder(rng, 2, &mut left));
+                entries.insert(name("ear", number), folder(rng, profile, 2, &mut left));
             }
         }
     }
-    Node::Folder(entries)
+    respelled(rng, profile, &Node::Folder(entries))
 }
 
 /// A name that ascends with its number.
-fn numbered(word: &str, number: usize) -> Vec<u8> {
-    format!("{word}-{number:04}").into_bytes()
+fn numbered(profile: Profile, word: &str, number: usize) -> Name {
+    profile.name(format!("{word}-{number:04}").as_bytes())
 }
 
 /// A file with a size and a digest like no other's.
@@ -71,17 +75,17 @@ fn content(rng: &mut Random) -> Node {
 }
 
 /// So many rows beneath each other, the last a file.
-fn chain(rng: &mut Random, rows: usize) -> Node {
+fn chain(rng: &mut Random, profile: Profile, rows: usize) -> Node {
     let mut node = content(rng);
     for depth in 1..rows {
-        let name = numbered("in", depth);
+        let name = numbered(profile, "in", depth);
         node = Node::Folder(Entries::from([(name, node)]));
     }
     node
 }
 
 /// A folder whose entries have the given depth, of no more rows than are left, itself one of them.
-fn folder(rng: &mut Random, depth: usize, left: &mut usize) -> Node {
+fn folder(rng: &mut Random, profile: Profile, depth: usize, left: &mut usize) -> Node {
     *left -= 1;
     let mut entries = Entries::new();
     for number in 0..8 + rng.below(9) {
@@ -89,12 +93,12 @@ fn folder(rng: &mut Random, depth: usize, left: &mut usize) -> Node {
             break;
         }
         let node = if rng.one_in(4) {
-            folder(rng, depth + 1, left)
+            folder(rng, profile, depth + 1, left)
         } else {
             *left -= 1;
             content(rng)
         };
-        entries.insert(numbered("day", number), node);
+        entries.insert(numbered(profile, "day", number), node);
     }
     Node::Folder(entries)
 }
@@ -102,12 +106,20 @@ fn folder(rng: &mut Random, depth: usize, left: &mut usize) -> Node {
 /// Three trees of the shape, each of exactly so many rows.
 ///
 /// What one side alone changes keeps its rows: a file gets another content, an entry another name.
-pub fn changed(rng: &mut Random, shape: Shape, rows: usize, change: Change) -> Three {
-    let archive = shaped(rng, shape, rows);
+/// Where letter case is ignored, each has spellings of its own.
+pub fn changed(
+    rng: &mut Random,
+    profile: Profile,
+    shape: Shape,
+    rows: usize,
+    change: Change,
+) -> Three {
+    let archive = shaped(rng, profile, shape, rows);
     let (left, right) = match change {
         Change::Agreed => (archive.clone(), archive.clone()),
-        _ => apart(rng, &archive, change),
+        _ => apart(rng, profile, &archive, change),
     };
+    let [left, right] = [left, right].map(|side| respelled(rng, profile, &side));
     Three {
         archive,
         left,
@@ -115,20 +127,21 @@ pub fn changed(rng: &mut Random, shape: Shape, rows: usize, change: Change) -> T
     }
 }
 
-fn apart(rng: &mut Random, node: &Node, change: Change) -> (Node, Node) {
+fn apart(rng: &mut Random, profile: Profile, node: &Node, change: Change) -> (Node, Node) {
     let Node::Folder(entries) = node else {
         return (node.clone(), node.clone());
     };
     let mut sides = [Entries::new(), Entries::new()];
     for (name, node) in entries {
         let side = rng.below(2);
-        let mut put = |side: usize, name: &[u8], node: Node| {
-            sides[side].insert(name.to_vec(), node);
+        let mut put = |side: usize, name: &Name, node: Node| {
+            sides[side].insert(name.clone(), node);
         };
         match rng.below(32) {
             // A new name, for a whole subtree at times; the other side has what the archive has.
             0 => {
-                put(side, &[name, b"~".as_slice()].concat(), node.clone());
+                let other = profile.name(&[name.spelled(), b"~"].concat());
+                put(side, &other, node.clone());
                 put(1 - side, name, node.clone());
             }
             1..=4 if !node.is_folder() => {
@@ -145,7 +158,7 @@ fn apart(rng: &mut Random, node: &Node, change: Change) -> (Node, Node) {
                 put(1 - side, name, same);
             }
             _ => {
-                let (left, right) = apart(rng, node, change);
+                let (left, right) = apart(rng, profile, node, change);
                 put(0, name, left);
                 put(1, name, right);
             }
@@ -157,13 +170,14 @@ fn apart(rng: &mut Random, node: &Node, change: Change) -> (Node, Node) {
 
 /// The tree with edits of all kinds strewn over it in one pass, one in so many entries, and of no
 /// more than so many rows.
-pub fn strewn(rng: &mut Random, tree: &Node, odds: usize, most: usize) -> Node {
+pub fn strewn(rng: &mut Random, profile: Profile, tree: &Node, odds: usize, most: usize) -> Node {
     let mut room = most.saturating_sub(tree.rows());
-    strew(rng, tree, odds, &mut room)
+    let edited = strew(rng, profile, tree, odds, &mut room);
+    respelled(rng, profile, &edited)
 }
 
 /// The room is how many rows may still be added.
-fn strew(rng: &mut Random, node: &Node, odds: usize, room: &mut usize) -> Node {
+fn strew(rng: &mut Random, profile: Profile, node: &Node, odds: usize, room: &mut usize) -> Node {
     let Node::Folder(entries) = node else {
         return node.clone();
     };
@@ -174,13 +188,13 @@ fn strew(rng: &mut Random, node: &Node, odds: usize, room: &mut usize) -> Node {
             0 => None,
             1 => Some(trees::file(rng)),
             2 => Some(Node::default()),
-            _ => Some(strew(rng, node, odds, room)),
+            _ => Some(strew(rng, profile, node, odds, room)),
         };
         if let Some(now) = now {
             result.insert(name.clone(), now);
         }
         if edit == 3 && *room > 0 {
-            let added = trees::fresh(rng, entries);
+            let added = trees::fresh(rng, profile, entries);
             // An entry that was added here before is taken over.
             if result.insert(added, trees::file(rng)).is_none() {
                 *room -= 1;

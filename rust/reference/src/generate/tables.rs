@@ -1,8 +1,10 @@
 //! Damaged tables, paths for moves, and list entries.
 
+use super::spelling::recased;
 use super::{trees, Random};
 use crate::moves::{slots, Slots};
-use crate::table::{name_words, DEEPEST, MOST_ROWS, NO_ROW, ROW};
+use crate::name::{Name, Profile};
+use crate::table::{name_bytes, name_words, DEEPEST, MOST_ROWS, NO_ROW, ROW};
 use crate::tree::{Node, Path};
 
 /// Which rule of a table is broken.
@@ -18,20 +20,23 @@ pub enum Damage {
     Kind,
     /// A name is empty, "." or "..", or has a slash or a zero before its end.
     Name,
-    /// A sibling does not come after the one before.
+    /// A sibling comes before the one before it.
     Order,
+    /// A sibling has the name of the one before it, in another letter case if case is ignored.
+    Twin,
     /// A folder has something in words 10 to 19.
     FolderWords,
 }
 
 /// Every kind of damage.
-pub const DAMAGES: [Damage; 7] = [
+pub const DAMAGES: [Damage; 8] = [
     Damage::Length,
     Damage::Root,
     Damage::Depth,
     Damage::Kind,
     Damage::Name,
     Damage::Order,
+    Damage::Twin,
     Damage::FolderWords,
 ];
 
@@ -40,14 +45,19 @@ pub const DAMAGES: [Damage; 7] = [
 pub struct Damaged {
     /// The table.
     pub table: Vec<u32>,
-    /// 1 or 2.
+    /// 1, 2 or 16.
     pub number: u32,
     /// The row.
     pub place: u32,
 }
 
 /// A good table with one rule broken, or nothing if it has no row to break it at.
-pub fn damaged(rng: &mut Random, table: &[u32], damage: Damage) -> Option<Damaged> {
+pub fn damaged(
+    rng: &mut Random,
+    profile: Profile,
+    table: &[u32],
+    damage: Damage,
+) -> Option<Damaged> {
     let mut table = table.to_vec();
     let rows = table.len() / ROW;
     if damage == Damage::Length {
@@ -62,7 +72,7 @@ pub fn damaged(rng: &mut Random, table: &[u32], damage: Damage) -> Option<Damage
         Damage::Root => *row == 0,
         Damage::Kind => true,
         Damage::FolderWords => table[row * ROW + 1] == 0,
-        Damage::Order => sibling_before(&table, *row).is_some(),
+        Damage::Order | Damage::Twin => sibling_before(&table, *row).is_some(),
         _ => *row > 0,
     };
     let candidates: Vec<usize> = (0..rows).filter(fits).collect();
@@ -70,10 +80,15 @@ pub fn damaged(rng: &mut Random, table: &[u32], damage: Damage) -> Option<Damage
         return None;
     }
     let row = rng.pick(&candidates);
-    break_row(rng, &mut table, row, damage);
+    match damage {
+        Damage::Twin => make_twin(rng, profile, &mut table, row),
+        _ => break_row(rng, &mut table, row, damage),
+    }
+    let twin = (Damage::Twin, Profile::Folded);
+    let number = if (damage, profile) == twin { 16 } else { 2 };
     Some(Damaged {
         table,
-        number: 2,
+        number,
         place: row as u32,
     })
 }
@@ -97,7 +112,7 @@ fn sibling_before(table: &[u32], row: usize) -> Option<usize> {
 fn break_row(rng: &mut Random, table: &mut [u32], row: usize, damage: Damage) {
     let at = row * ROW;
     match damage {
-        Damage::Length => unreachable!("a row has no length"),
+        Damage::Length | Damage::Twin => unreachable!("made elsewhere"),
         Damage::Root => match rng.below(3) {
             0 => table[at] = 1 + rng.word() / 2,
             1 => table[at + 1] = 1 + rng.word() / 2,
@@ -114,15 +129,21 @@ fn break_row(rng: &mut Random, table: &mut [u32], row: usize, damage: Damage) {
         }
         Damage::Order => {
             let before = sibling_before(table, row).expect("a row with a sibling before") * ROW;
-            let lower: Vec<u32> = table[before + 2..before + 10].to_vec();
-            if rng.one_in(2) {
-                // The names change places, so that the sibling before is still in order.
-                table.copy_within(at + 2..at + 10, before + 2);
-            }
-            table[at + 2..at + 10].copy_from_slice(&lower);
+            // The names change places, so that the sibling before is still in order.
+            (2..10).for_each(|word| table.swap(at + word, before + word));
         }
         Damage::Name => break_name(rng, &mut table[at + 2..at + 10]),
     }
+}
+
+/// Gives a row the name of the sibling before.
+fn make_twin(rng: &mut Random, profile: Profile, table: &mut [u32], row: usize) {
+    let before = sibling_before(table, row).expect("a row with a sibling before") * ROW;
+    let mut name = name_bytes(&table[before + 2..before + 10]).expect("a good name");
+    if profile == Profile::Folded {
+        name = recased(rng, &name);
+    }
+    table[row * ROW + 2..row * ROW + 10].copy_from_slice(&name_words(&name));
 }
 
 fn break_name(rng: &mut Random, words: &mut [u32]) {
@@ -160,13 +181,18 @@ pub fn altered(rng: &mut Random, table: &[u32]) -> Vec<u32> {
     table
 }
 
-/// A path for a move between two trees, most often a good one that is in one of them.
-pub fn path(rng: &mut Random, target: &Node, source: &Node) -> (Slots, u32) {
+/// A path for a move between two trees, most often a good one that is in one of them; where letter
+/// case is ignored, in any spelling.
+pub fn path(rng: &mut Random, profile: Profile, target: &Node, source: &Node) -> (Slots, u32) {
     let from = if rng.one_in(2) { target } else { source };
     let paths = from.paths();
     let mut path: Path = rng.pick(&paths);
     if path.is_empty() || (path.len() < DEEPEST && rng.one_in(6)) {
-        path.push(trees::name(rng));
+        path.push(trees::name(rng, profile));
+    }
+    if profile == Profile::Folded && rng.one_in(2) {
+        let name = |name: &Name| profile.name(&recased(rng, name.spelled()));
+        path = path.iter().map(name).collect();
     }
     let (mut names, mut depth) = slots(&path);
     if rng.one_in(8) {

@@ -32,7 +32,7 @@ pub fn hurt(rng: &mut Random, text: &[u8]) -> Vec<u8> {
     let mut text = text.to_vec();
     let byte = match rng.below(3) {
         0 => rng.byte(),
-        _ => rng.pick(b"\n\\ \t#/.=*0a\r"),
+        _ => rng.pick(b"\n\\ \t#/.=*0aA\r"),
     };
     if text.is_empty() {
         return vec![byte];
@@ -51,7 +51,7 @@ pub fn hurt(rng: &mut Random, text: &[u8]) -> Vec<u8> {
 const DIGEST: &str =
     "sha256digest=00112233445566778899aabbccddeeff00112233445566778899AABBCCDDEEFF";
 
-const FIRST: [&str; 34] = [
+const FIRST: [&str; 38] = [
     ".",
     ".",
     ".",
@@ -62,8 +62,12 @@ const FIRST: [&str; 34] = [
     "a",
     "b",
     "b",
+    "A",
+    "B",
+    "\\101",
     "c",
     "d",
+    "D",
     "e",
     "f",
     "/set",

@@ -77,6 +77,17 @@ pub(super) fn digest_word(rng: &mut Random, digest: &[u32; 8]) -> Vec<u8> {
     [b"sha256digest=".to_vec(), hex].concat()
 }
 
+/// The words of a good file.
+pub(super) fn file_words(rng: &mut Random) -> [Vec<u8>; 3] {
+    let size = rng.bits();
+    let digest = [(); 8].map(|()| rng.word());
+    [
+        type_word(false),
+        size_word(rng, size),
+        digest_word(rng, &digest),
+    ]
+}
+
 /// A name as a first word: bytes that may stand plain are escaped at times all the same.
 pub(super) fn name_word(rng: &mut Random, calm: usize, name: &[u8]) -> Vec<u8> {
     let mut word = Vec::new();

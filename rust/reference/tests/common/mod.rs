@@ -1,6 +1,7 @@
 //! Small trees written by hand.
 #![allow(dead_code)]
 
+use reference::Profile::{self, Exact};
 use reference::{name_words, table, Node, Path, ROW};
 
 /// A file of the given content number.
@@ -10,20 +11,27 @@ pub fn file(content: u32) -> Node {
     Node::File { size, digest }
 }
 
-/// A path from names parted by slashes.
+/// A path from names parted by slashes, where every byte counts.
 pub fn path(names: &str) -> Path {
-    names
-        .split('/')
-        .map(|name| name.as_bytes().to_vec())
-        .collect()
+    path_in(Exact, names)
+}
+
+/// A path from names parted by slashes.
+pub fn path_in(profile: Profile, names: &str) -> Path {
+    profile.path(&names.split('/').collect::<Vec<_>>())
+}
+
+/// A tree beside the lone root, where every byte counts.
+pub fn tree(listed: &[(&str, u32)]) -> Node {
+    tree_in(Exact, listed)
 }
 
 /// A tree beside the lone root: each path holds a file of its content number, 0 an empty folder.
-/// Folders on the way are made.
-pub fn tree(listed: &[(&str, u32)]) -> Node {
+/// Folders on the way are made, if they are not there in any spelling.
+pub fn tree_in(profile: Profile, listed: &[(&str, u32)]) -> Node {
     let mut tree = Node::default();
     for (names, content) in listed {
-        let path = path(names);
+        let path = path_in(profile, names);
         for depth in 1..path.len() {
             if tree.at(&path[..depth]).is_none() {
                 tree.put(&path[..depth], Some(Node::default()));
@@ -38,9 +46,14 @@ pub fn tree(listed: &[(&str, u32)]) -> Node {
     tree
 }
 
-/// The table of such a tree.
+/// The table of such a tree, where every byte counts.
 pub fn rows(listed: &[(&str, u32)]) -> Vec<u32> {
-    table(&tree(listed))
+    rows_in(Exact, listed)
+}
+
+/// The table of such a tree.
+pub fn rows_in(profile: Profile, listed: &[(&str, u32)]) -> Vec<u32> {
+    table(&tree_in(profile, listed))
 }
 
 /// Number, side and place of a refusal.
