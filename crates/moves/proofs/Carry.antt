@@ -4,8 +4,7 @@ use mathlib.Core.List.{List, [], map}
 use mathlib.Core.Bool.{true, false}
 use native.Mathlib.Omega.{arith}
 use lib.ListN.{length, take, drop, getD, length-take, length-drop}
-use lib.Seq.{take-at}
-use Prim.Native.Nat.{ℕ, _+_, _*_, _-_, _%_, _≤_}
+use Prim.Native.Nat.{ℕ, _+_, _*_, _-_, _≤_}
 use Rattle.tree.specs.Name.{Name}
 use Rattle.tree.specs.Forest.{Node.folder, at}
 use Rattle.tree.specs.Rules.{Words32}
@@ -14,7 +13,6 @@ use Rattle.tree.specs.declared.Profile.the-variants.{Exact, Folded}
 use Rattle.tree.specs.Key.{key}
 use Rattle.tree.proofs.Never.{never}
 use Rattle.tree.proofs.Folds.{path-exact}
-use Rattle.row.specs.Buffer.{over}
 use Rattle.row.specs.Tree.{treeOf}
 use Rattle.row.specs.Keyed.{keyed}
 use Rattle.row.proofs.Keyed.{tree-keyed, length-keyed, keyed-exact}
@@ -39,11 +37,6 @@ use Rattle.moves.proofs.Pieces.{is-folder, no-folder, ready, moved-word
 pub keys-pass : (p : Profile) (w : List ℕ) → Passes p w → Passes Exact (keyed p w)
 unfolding twins
 keys-pass p w P = record { checked-fine = checked-exact (keyed p w) ∙ passes-keyed p w P; no-twins = refl }
-
--- the keys in an array
-pub keys-front : (d w : List ℕ) → length w % 20 ≡ 0 → take (length w) (over d (keyed Folded w)) ≡ keyed Folded w
-unfolding over
-keys-front d w h = take-at (keyed Folded w) (drop (length (keyed Folded w)) d) (length w) (length-keyed Folded w h)
 
 -- a part that is found is rows
 pub span-rows : (w u : List ℕ) (f : Found) (S : Span) → Spans u f S → length u ≡ length w → length w ≤ 81920 → Rows (take (S .to - S .from) (drop (S .from) w))

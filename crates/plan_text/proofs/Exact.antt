@@ -3,7 +3,7 @@ use mathlib.Core.Path.{_≡_, refl, ap, ap₂, _∙_}
 use mathlib.Core.List.{[], _∷_, map}
 use Rattle.tree.specs.Forest.{TreePath, Forest, Node, Node.absent, Node.file, Node.folder, kids, at}
 use Rattle.tree.specs.declared.Profile.the-variants.{Exact}
-use Rattle.tree.specs.Key.{fold, entry, spelling}
+use Rattle.tree.specs.Key.{fold, entry}
 use Rattle.tree.proofs.Folds.{spelling-exact}
 use Rattle.settle.specs.Results.{Line, Line.line, Lines, Outcome, outcome}
 use Rattle.settle.proofs.Spelled.{outcome-exact}

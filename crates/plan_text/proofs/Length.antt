@@ -6,14 +6,14 @@ use mathlib.Core.Logic.{_⊎_, inl, inr}
 use native.Mathlib.Omega.{arith}
 use lib.Dec.{eqb}
 use lib.ListN.{length, length-append}
-use Prim.Native.Nat.{ℕ, zero, suc, _+_, _*_, _/_, _%_, _≤_, Ordering, Ordering·lt, Ordering·eq, Ordering·gt}
-use Rattle.tree.specs.Name.{Name, cmp, ifSame}
+use Prim.Native.Nat.{ℕ, zero, suc, _+_, _*_, _/_, _%_, _≤_}
+use Rattle.tree.specs.Name.{Name}
 use Rattle.tree.specs.Forest.{TreePath, Forest, Forest.end, Forest.leaf, Forest.dir, Node, Node.absent, Node.file, Node.folder, Present, at, size}
 use Rattle.tree.specs.Rules.{NameRule, ContentRule, Within, bytes}
 use Rattle.tree.specs.declared.Profile.{Profile}
-use Rattle.tree.specs.Key.{key, fold, FormedIn, entry, spelling}
+use Rattle.tree.specs.Key.{fold, FormedIn, entry, spelling}
 use Rattle.tree.proofs.Rules.{length-bytes, WithinNode}
-use Rattle.tree.proofs.Folds.{reach, reach-absent, size-fold}
+use Rattle.tree.proofs.Folds.{within-entry, reach, reach-absent, size-fold}
 use Rattle.settle.specs.Results.{Line.line, Lines}
 use Rattle.settle.specs.Spelled.{outcomeIn}
 use Rattle.stands.proofs.Forest.{ruled-within}
@@ -24,7 +24,7 @@ use Rattle.plan.proofs.Bound.{lines-bound}
 use Rattle.tally.specs.declared.Tally.{Tally}
 use Rattle.tally.specs.Count.{tallyOf}
 use Rattle.listing.specs.Bytes.{text}
-use Rattle.listing.specs.Writing.{asItIs, spellByte, spell, nameText, decimal}
+use Rattle.listing.specs.Writing.{asItIs, spellByte, spell, nameText}
 use Rattle.listing.proofs.Digits.{decimal-length}
 use Rattle.plan_text.specs.Text.{mark, namesText, pathText, marked, lineText, linesText, countsText, planText}
 use Rattle.plan_text.specs.Sides.{Sided}
@@ -47,23 +47,6 @@ spell-length (b ∷ bs) = go (eqb b 0) (asItIs b) (spell-length bs)
 name-length : (n : Name) → NameRule n → length (nameText n) ≤ 128
 name-length n N = omega (arith, spell-length (bytes n), length-bytes n, N .eight)
 
--- an entry that is there, in a forest of at most k levels
-within-entry : (p : Profile) (k : ℕ) (n : Name) (f : Forest) → Within NameRule ContentRule (suc k) f → WithinNode NameRule ContentRule k (entry p n f)
-unfolding Within entry
-within-entry p k n end w = tt
-within-entry p k n (leaf m c s) w = go (cmp n (key p m)) (within-entry p k n s (w .2))
-  where
-    go : (o : Ordering) → WithinNode NameRule ContentRule k (entry p n s) → WithinNode NameRule ContentRule k (ifSame o (file c) (entry p n s))
-    go Ordering·lt ih = ih
-    go Ordering·eq ih = w .1
-    go Ordering·gt ih = ih
-within-entry p k n (dir m j s) w = go (cmp n (key p m)) (within-entry p k n s (w .2))
-  where
-    go : (o : Ordering) → WithinNode NameRule ContentRule k (entry p n s) → WithinNode NameRule ContentRule k (ifSame o (folder j) (entry p n s))
-    go Ordering·lt ih = ih
-    go Ordering·eq ih = w .1
-    go Ordering·gt ih = ih
-
 -- a path of keys to something in a forest of at most k levels, as the forest spells it
 names-length : (p : Profile) (q : TreePath) (k : ℕ) (x : Node) → WithinNode NameRule ContentRule k x → Present (reach p x q) → length (namesText (spelledIn p x q)) ≤ 129 * k
 unfolding namesText reach spelledIn entry Within
@@ -78,7 +61,7 @@ names-length p (n ∷ q) (suc k) (folder f) w h =
       arith,
       length-append (nameText (spelling p n f n)) (namesText (spelledIn p (entry p n f) q)),
       name-length (spelling p n f n) (ruled-entry p n f (ruled-within (suc k) f w) (reach-above p q (entry p n f) h) .0),
-      names-length p q k (entry p n f) (within-entry p k n f w) h,
+      names-length p q k (entry p n f) (within-entry p NameRule ContentRule k n f w) h,
     )
 
 mark-length : (k : ℕ) → length (mark k) ≡ 1

@@ -2,11 +2,8 @@
 use mathlib.Core.Path.{_≡_, refl}
 use mathlib.Core.List.{List}
 use native.Mathlib.Omega.{arith}
-use lib.ListN.{length, take, drop}
-use lib.Seq.{take-at}
-use Prim.Native.Nat.{ℕ, zero, suc, _-_, _%_, _<_}
+use Prim.Native.Nat.{ℕ, zero, suc, _-_, _<_}
 use Rattle.tree.specs.declared.Profile.the-variants.{Exact, Folded}
-use Rattle.row.specs.Buffer.{over}
 use Rattle.row.specs.Keyed.{keyed}
 use Rattle.row.proofs.Keyed.{length-keyed, keyed-exact}
 use Rattle.plan.specs.Settle.{Three, settled}
@@ -20,11 +17,6 @@ pub turn : (n : ℕ) (o l r : List ℕ) → 0 < n → settledAfter n o l r ≡ s
 unfolding settledAfter
 turn zero o l r h = absurd (omega arith)
 turn (suc n) o l r h = let e : suc n - 1 ≡ n = omega arith in rw e
-
--- the keyed table in the array
-pub keys-front : (d e o : List ℕ) → length o % 20 ≡ 0 → e ≡ over d (keyed Folded o) → take (length o) e ≡ keyed Folded o
-unfolding over
-keys-front d e o h k = rw k (take-at (keyed Folded o) (drop (length (keyed Folded o)) d) (length o) (length-keyed Folded o h))
 
 pub three-turned : (o l r : List ℕ) → Three o l r → Three l r (keyed Folded o)
 three-turned o l r T =

@@ -11,7 +11,8 @@ use Rattle.tree.specs.declared.Profile.{Profile}
 use Rattle.tree.specs.Key.{key, fold, foldNode, entry, spelling}
 use Rattle.tree.proofs.Keys.{key-idem, rule-key}
 use Rattle.tree.proofs.Forest.{sorted-find}
-use Rattle.tree.proofs.Folds.{entry-fold, key-spelling, spelling-none, spelling-some}
+use Rattle.tree.proofs.Folds.{entry-fold, key-spelling}
+use Rattle.tree.proofs.Respelled.{spelling-none, spelling-some}
 use Rattle.row.specs.Table.{rowAt, name}
 use Rattle.row.specs.Tree.{fileRow, folderRow, rowsOf, nodeRows}
 use Rattle.find.specs.declared.Found.{Found}

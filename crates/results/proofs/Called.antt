@@ -9,7 +9,8 @@ use Rattle.tree.specs.Forest.{TreePath, Forest, Forest.end, Forest.leaf, Forest
 use Rattle.tree.specs.Rules.{NameRule}
 use Rattle.tree.specs.declared.Profile.{Profile}
 use Rattle.tree.specs.Key.{key, entry, spelling}
-use Rattle.tree.proofs.Folds.{spelling-none, spelling-some, reach, ownName}
+use Rattle.tree.proofs.Folds.{reach, ownName}
+use Rattle.tree.proofs.Respelled.{spelling-none, spelling-some}
 use Rattle.settle.specs.Decision.{Decision, Decision.agreed, Decision.leftGets, Decision.rightGets, Decision.clash}
 use Rattle.settle.proofs.Picks.{Result.left, Result.right, Result.archive}
 use Rattle.settle.proofs.Places.{called}

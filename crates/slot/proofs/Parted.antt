@@ -13,7 +13,8 @@ use Rattle.row.specs.Table.{Row}
 use Rattle.row.specs.Tree.{folderRow, rowsOf, nodeRows}
 use Rattle.stands.specs.Around.{rowIn}
 use Rattle.tree.proofs.Forest.{sorted-find}
-use Rattle.tree.proofs.Folds.{entry-fold, fold-absent, spelling-none, spelling-some}
+use Rattle.tree.proofs.Folds.{entry-fold, fold-absent}
+use Rattle.tree.proofs.Respelled.{spelling-none, spelling-some}
 use Rattle.row.proofs.Tree.{rows-add, length-rows}
 use Rattle.stands.proofs.Keyed.{beforeKey, behindKey, size-before, rows-split, under-head}
 

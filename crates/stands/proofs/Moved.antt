@@ -18,7 +18,8 @@ use Rattle.tree.proofs.Forest.{sorted-find}
 use Rattle.tree.proofs.Put.{put-at, reaches-entry}
 use Rattle.tree.proofs.Size.{rowCount}
 use Rattle.tree.proofs.Keys.{key-idem}
-use Rattle.tree.proofs.Folds.{respellNode, respellNode-same, fold-respellNode, foldNode-idem, fold-kids, size-fold, entry-fold, spelling-some, key-spelling, respell-add, reach, ownName, reach-fold}
+use Rattle.tree.proofs.Folds.{respellNode, fold-kids, size-fold, entry-fold, key-spelling, respell-add, reach, ownName, reach-fold}
+use Rattle.tree.proofs.Respelled.{respellNode-same, fold-respellNode, foldNode-idem, spelling-some}
 use Rattle.row.proofs.Flat.{Whole, length-flat}
 use Rattle.row.proofs.Tree.{rows-add, length-rows}
 use Rattle.stands.specs.Stands.{RuledNode, Holds}

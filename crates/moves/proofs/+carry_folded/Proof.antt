@@ -8,10 +8,9 @@ use borrow.Author.Needs.{needs}
 use borrow.Fn.Kinds.{In}
 use borrow.Fn.PlainCycle.{Measures, is, falls, and}
 use Rattle.tree.specs.declared.Profile.the-variants.{Folded}
-use Rattle.row.proofs.Keyed.{length-keyed}
+use Rattle.row.proofs.Keyed.{length-keyed, keys-front}
 use Rattle.row.proofs.key_table.Reads as key-table-reads
 use Rattle.rules.proofs.Passed.{passed-whole, passed-some, passed-words}
-use Rattle.moves.proofs.Carry.{keys-front}
 use Rattle.moves.proofs.carry_folded.Reads as carry-folded
 use Rattle.moves.proofs.carry_folded.Kinds as carry-folded-kinds
 use Rattle.moves.proofs.+carry_folded.Lts-carry_folded as carry-folded-lts
@@ -65,13 +64,13 @@ pub +carry-folded-spec : {M : Type 1} → statement M
     let s = c .before .before .before .before .before .before .before .before .before in
     let P = s .pre .1 .source-passes in
     let w = s .args .source .now in
-    let k = ap (take (length w)) (c .before .before .key-table .ensures) ∙ keys-front _ w (passed-whole Folded w P) in
+    let k = ap (take (length w)) (c .before .before .key-table .ensures) ∙ keys-front Folded _ w (passed-whole Folded w P) in
     (omega (arith, ap length k, length-keyed Folded w (passed-whole Folded w P), passed-some Folded w P), s .pre .1 .high))
     (λ c κs.
     let s = c .before .before .before .before .before .before .before .before .before .before .before in
     let T = s .pre .1 in
     let w = s .args .source .now in
-    let k = ap (take (length w)) (c .before .before .before .before .key-table .ensures) ∙ keys-front _ w (passed-whole Folded w (T .source-passes)) in
+    let k = ap (take (length w)) (c .before .before .before .before .key-table .ensures) ∙ keys-front Folded _ w (passed-whole Folded w (T .source-passes)) in
     record {
       target-passes = T .target-passes;
       source-passes = T .source-passes;
@@ -100,7 +99,7 @@ pub +carry-folded-spec : {M : Type 1} → statement M
     let s = c .before .before .before .before .before .before .before .before .before .before in
     let T = s .pre .1 in
     let w = s .args .target .now in
-    let k = ap (take (length w)) (c .before .before .before .key-table2 .ensures) ∙ keys-front _ w (passed-whole Folded w (T .target-passes)) in (
+    let k = ap (take (length w)) (c .before .before .before .key-table2 .ensures) ∙ keys-front Folded _ w (passed-whole Folded w (T .target-passes)) in (
       omega (arith, s .pre .0),
       record { target-passes = T .target-passes; source-passes = T .source-passes; keyed-target = λ z. k; named = T .named; low = T .low; high = T .high },
     ))

@@ -1,8 +1,10 @@
 -- `settle_keyed` keys the first table and goes on with it behind the others; the tables left to key fall.
-use mathlib.Core.Path.{sym}
-use lib.ListN.{length, length-replicate}
+use mathlib.Core.Path.{sym, ap, _∙_}
+use lib.ListN.{length, take, length-replicate}
 use lib.Seq.{length-take-le}
-use Rattle.reconcile.proofs.Turns.{last-turn, turn, keys-front, three-turned}
+use Rattle.tree.specs.declared.Profile.the-variants.{Folded}
+use Rattle.row.proofs.Keyed.{keys-front}
+use Rattle.reconcile.proofs.Turns.{last-turn, turn, three-turned}
 use native.Mathlib.Omega.{arith}
 use borrow.Author.Needs.{needs}
 use Prim.Native.Nat.{ℕ, _<_, _≤_}
@@ -58,7 +60,7 @@ pub +settle-keyed-spec : {M : Type 1} → statement M
     let k = c .before .before .before .before in
     let s = k .before .before .before .before .before .before in
     let a = s .args in
-    let f = keys-front _ _ (a .o .now) (s .pre .1 .0 .o-whole) (k .key-table .ensures) in
+    let f = ap (take (length (a .o .now))) (k .key-table .ensures) ∙ keys-front Folded _ (a .o .now) (s .pre .1 .0 .o-whole) in
     let e = last-turn (a .n) (a .o .now) (a .l .now) (a .r .now) (omega arith) in
     (rw f (three-turned (a .o .now) (a .l .now) (a .r .now) (s .pre .1 .0)), rw f (rw e at (s .pre .1 .1))))
     (λ c. search needs)
@@ -66,7 +68,7 @@ pub +settle-keyed-spec : {M : Type 1} → statement M
     let k = c .before .before .before .before .before .before .before in
     let s = k .before .before .before .before .before .before in
     let a = s .args in
-    let f = keys-front _ _ (a .o .now) (s .pre .1 .0 .o-whole) (k .key-table .ensures) in
+    let f = ap (take (length (a .o .now))) (k .key-table .ensures) ∙ keys-front Folded _ (a .o .now) (s .pre .1 .0 .o-whole) in
     rw (last-turn (a .n) (a .o .now) (a .l .now) (a .r .now) (omega arith)) (rw f at (c .before .before .settle .ensures)))
     (λ c. search needs)
     (λ c.
@@ -81,7 +83,7 @@ pub +settle-keyed-spec : {M : Type 1} → statement M
     let k = c .before .before .before .before in
     let s = k .before .before .before .before .before .before in
     let a = s .args in
-    let f = keys-front _ _ (a .o .now) (s .pre .1 .0 .o-whole) (k .key-table .ensures) in
+    let f = ap (take (length (a .o .now))) (k .key-table .ensures) ∙ keys-front Folded _ (a .o .now) (s .pre .1 .0 .o-whole) in
     let e = turn (a .n) (a .o .now) (a .l .now) (a .r .now) (omega arith) in
     (omega (arith, s .pre .0), (rw f (three-turned (a .o .now) (a .l .now) (a .r .now) (s .pre .1 .0)), rw f (rw e at (s .pre .1 .1)))))
     (λ c. search needs)
@@ -89,5 +91,5 @@ pub +settle-keyed-spec : {M : Type 1} → statement M
     let k = c .before .before .before .before .before .before .before in
     let s = k .before .before .before .before .before .before in
     let a = s .args in
-    let f = keys-front _ _ (a .o .now) (s .pre .1 .0 .o-whole) (k .key-table .ensures) in
+    let f = ap (take (length (a .o .now))) (k .key-table .ensures) ∙ keys-front Folded _ (a .o .now) (s .pre .1 .0 .o-whole) in
     rw (turn (a .n) (a .o .now) (a .l .now) (a .r .now) (omega arith)) (rw f at (c .before .before .settle-keyed .ensures)))
