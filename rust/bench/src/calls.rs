@@ -68,16 +68,16 @@ pub fn reconcile(
             black_box(counts).expect("there is room");
         },
         &mut || {
-            copied.archive.copy_from_slice(black_box(&outcome.archive));
-            copied.left.copy_from_slice(black_box(&outcome.left));
-            copied.right.copy_from_slice(black_box(&outcome.right));
-            let list = black_box(&outcome.list).as_flattened();
-            copied.list.copy_from_slice(list);
+            let made = black_box(&outcome);
+            copied.archive.copy_from_slice(&made.archive);
+            copied.left.copy_from_slice(&made.left);
+            copied.right.copy_from_slice(&made.right);
+            copied.list.copy_from_slice(made.list.as_flattened());
             black_box(&mut copied);
         },
     ]);
-    assert!(ours.archive == theirs.archive && ours.list == theirs.list);
-    assert!(ours.left == theirs.left && ours.right == theirs.right);
+    ours.tally = theirs.tally;
+    assert!(ours == theirs);
     Line {
         profile,
         call: "reconcile",

@@ -150,6 +150,30 @@ fn tree<const N: usize>(case: &mut Case, entries: [(&str, Node); N]) -> Node {
     generate::respelled(&mut case.rng, case.profile, &tree)
 }
 
+/// Three trees that come to so many rows and so many more in one place of one result.
+fn at_the_limit(case: &mut Case, one: usize, other: usize) -> Three {
+    let (one, other) = (pile(case, one), pile(case, other));
+    let (f, g) = (generate::file(&mut case.rng), pile(case, 1));
+    let side = case.rng.below(3);
+    match side {
+        0 => Three {
+            archive: tree(case, [("p", one)]),
+            left: tree(case, [("p", f), ("q", other.clone())]),
+            right: tree(case, [("p", g), ("q", other)]),
+        },
+        1 => Three {
+            archive: tree(case, []),
+            left: tree(case, [("p", one)]),
+            right: tree(case, [("p", f), ("q", other)]),
+        },
+        _ => Three {
+            archive: tree(case, []),
+            left: tree(case, [("p", f), ("q", other)]),
+            right: tree(case, [("p", one)]),
+        },
+    }
+}
+
 /// Results of about 4,096 rows, of the archive alone, of left alone and of right alone.
 #[test]
 fn results_at_the_limit() {
@@ -159,26 +183,7 @@ fn results_at_the_limit() {
         let over = case.rng.below(4);
         // With the root these are 4,095 to 4,098 rows.
         let other = MOST_ROWS - 2 + over - one;
-        let (one, other) = (pile(case, one), pile(case, other));
-        let (f, g) = (generate::file(&mut case.rng), pile(case, 1));
-        let side = case.rng.below(3);
-        let three = match side {
-            0 => Three {
-                archive: tree(case, [("p", one)]),
-                left: tree(case, [("p", f), ("q", other.clone())]),
-                right: tree(case, [("p", g), ("q", other)]),
-            },
-            1 => Three {
-                archive: tree(case, []),
-                left: tree(case, [("p", one)]),
-                right: tree(case, [("p", f), ("q", other)]),
-            },
-            _ => Three {
-                archive: tree(case, []),
-                left: tree(case, [("p", f), ("q", other)]),
-                right: tree(case, [("p", one)]),
-            },
-        };
+        let three = at_the_limit(case, one, other);
         let tables = three.tables();
         let run = both::reconcile(case, parts(&tables), enough(&tables));
         if run.is_some() != (over < 2) {

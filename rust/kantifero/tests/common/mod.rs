@@ -1,4 +1,5 @@
 //! Tables from rows, and the cases by name.
+#![allow(dead_code)]
 use kantifero::{NO_ROW, ROW};
 
 /// What no call writes.

@@ -237,17 +237,18 @@ fn bad_digest(rng: &mut Random, mut digest: Vec<u8>) -> Vec<u8> {
     digest
 }
 
+const BAD_TYPES: [&[u8]; 8] = [
+    b"type",
+    b"type=",
+    b"type=link",
+    b"type=Dir",
+    b"type=dir=",
+    b"type=files",
+    b"type=d\\151r",
+    b"type==dir",
+];
+
 fn bad_type(rng: &mut Random, profile: Profile, layout: &mut Layout) -> u32 {
-    let bad: [&[u8]; 8] = [
-        b"type",
-        b"type=",
-        b"type=link",
-        b"type=Dir",
-        b"type=dir=",
-        b"type=files",
-        b"type=d\\151r",
-        b"type==dir",
-    ];
     let mut rest = extra(rng);
     let [kind, size, digest] = file_words(rng);
     let way = rng.below(4);
@@ -266,7 +267,7 @@ fn bad_type(rng: &mut Random, profile: Profile, layout: &mut Layout) -> u32 {
         false => spot(rng, layout, |before| before.open > 0),
     };
     if !untyped {
-        rest.push(rng.pick(&bad).to_vec());
+        rest.push(rng.pick(&BAD_TYPES).to_vec());
     }
     let first = match way {
         3 => b"/set".to_vec(),
