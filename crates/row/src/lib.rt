@@ -109,10 +109,13 @@ fn lower(b: u32) -> u32
     b
 }
 
-// Each of a word's four bytes so.
+// Each of a word's four bytes so. Most words of a name are zero, past its end.
 fn lower_word(x: u32) -> u32
     ensures { λ r. ⌜ r ≡ lowerWord x ⌝ }
 {
+    if x == 0 {
+        return 0;
+    }
     let a = lower(x / 16777216);
     let b = lower(x / 65536 % 256);
     let c = lower(x / 256 % 256);
@@ -120,20 +123,24 @@ fn lower_word(x: u32) -> u32
     a * 16777216 + b * 65536 + c * 256 + d
 }
 
-// The order of two lists of as many words where letter case is ignored.
+// The order of two lists of as many words where letter case is ignored. Words that are the same need no folding.
 fn compare_lower(a: &[u32], b: &[u32]) -> Order
     requires { ⌜ length (now a) ≡ length (now b) ⌝ }
     ensures { λ r. ⌜ r ≡ ordered (cmp (map lowerWord (now (a .entry))) (map lowerWord (now (b .entry)))) ⌝ }
 {
     let mut k = 0;
     while k < a.len() {
-        let x = lower_word(a[k]);
-        let y = lower_word(b[k]);
-        if x < y {
-            return Order::Less;
-        }
-        if y < x {
-            return Order::Greater;
+        let x = a[k];
+        let y = b[k];
+        if x != y {
+            let u = lower_word(x);
+            let v = lower_word(y);
+            if u < v {
+                return Order::Less;
+            }
+            if v < u {
+                return Order::Greater;
+            }
         }
         k += 1;
     }

@@ -1,4 +1,5 @@
 -- `row::compare_lower` meets its contract: the words before word k are the same where letter case is ignored.
+use mathlib.Core.Logic.{⊎-elim}
 use mathlib.Core.Path.{_≡_, sym, ap, _∙_}
 use mathlib.Core.List.{map}
 use lib.ListN.{length, drop, getD}
@@ -22,31 +23,30 @@ abbrev μ-loop : tie.MeasureT-loop
 returns : tie.Need-returns Inv-loop μ-loop
 returns c =
     let u = c .before in
-    let l = u .before .before .before .before .before in
+    let l = u .before .before .before .before .before .before in
     let a = l .before .before .before .args .a .now in
     let b = l .before .before .before .args .b .now in
     let k = l .loop .k in
-    let h : getD (map lowerWord a) k 0 < getD (map lowerWord b) k 0 = rw (getD-lower a k, getD-lower b k, ← u .before .before .lower-word .ensures, ← u .lower-word2 .ensures) (c .if1 .taken) in
+    let h : getD (map lowerWord a) k 0 < getD (map lowerWord b) k 0 = rw (getD-lower a k, getD-lower b k, ← u .before .lower-word .ensures, ← u .lower-word2 .ensures) (c .if2 .taken) in
     sym (ap ordered (l .loop .inv .1 ∙ cmp-less (map lowerWord a) (map lowerWord b) k (rw length-lower (search needs)) (rw length-lower (search needs)) h))
 
 returns-2 : tie.Need-returns-2 Inv-loop μ-loop
 returns-2 c =
     let u = c .before .before in
-    let l = u .before .before .before .before .before in
+    let l = u .before .before .before .before .before .before in
     let a = l .before .before .before .args .a .now in
     let b = l .before .before .before .args .b .now in
     let k = l .loop .k in
-    let h : getD (map lowerWord b) k 0 < getD (map lowerWord a) k 0 = rw (getD-lower a k, getD-lower b k, ← u .before .before .lower-word .ensures, ← u .lower-word2 .ensures) (c .if2 .taken) in
+    let h : getD (map lowerWord b) k 0 < getD (map lowerWord a) k 0 = rw (getD-lower a k, getD-lower b k, ← u .before .lower-word .ensures, ← u .lower-word2 .ensures) (c .if3 .taken) in
     sym (ap ordered (l .loop .inv .1 ∙ cmp-greater (map lowerWord a) (map lowerWord b) k (rw length-lower (search needs)) (rw length-lower (search needs)) h))
 
 loop-again : tie.Need-loop-again Inv-loop μ-loop
 loop-again c =
-    let u = c .before .before in
-    let l = u .before .before .before .before .before in
+    let l = c .before .before .before .before in
     let a = l .before .before .before .args .a .now in
     let b = l .before .before .before .args .b .now in
     let k = l .loop .k in
-    let h : getD (map lowerWord a) k 0 ≡ getD (map lowerWord b) k 0 = rw (getD-lower a k, getD-lower b k, ← u .before .before .lower-word .ensures, ← u .lower-word2 .ensures) (omega arith) in
+    let h : getD (map lowerWord a) k 0 ≡ getD (map lowerWord b) k 0 = rw (getD-lower a k, getD-lower b k) (⊎-elim (λ w. omega (arith, w .1 .ensures, w .2 .ensures, w .3 .left, w .4 .left)) (λ w. ap lowerWord (w .left)) (c .if1 .came)) in
     (search needs, l .loop .inv .1 ∙ cmp-next (map lowerWord a) (map lowerWord b) k (rw length-lower (search needs)) (rw length-lower (search needs)) h)
 
 returns-3 : tie.Need-returns-3 Inv-loop μ-loop
@@ -65,9 +65,9 @@ compare-lower-spec =
     (λ c. search needs)
     (λ c. search needs)
     (λ c. search needs)
+    (λ c. search needs)
+    (λ c. search needs)
     (λ c κs. search needs)
-    (λ c. search needs)
-    (λ c. search needs)
     (λ c κs. search needs)
     returns
     returns-2
