@@ -1,0 +1,22 @@
+-- `try_fold::move_in` is safe: the parts are within their tables.
+use lib.ListN.{length-take}
+use native.Mathlib.Omega.{arith}
+use borrow.Author.Needs.{needs}
+use Rattle.try_fold.proofs.move_in.Statement.{statement}
+use Rattle.try_fold.proofs.move_in.Tie as tie
+
+pub move-in-spec : {M : Type 1} → statement M
+move-in-spec =
+    tie.close
+    (tie.spec
+    (λ c κs. search needs)
+    (λ c κs. search needs)
+    (λ c κs. search needs)
+    (λ c. search needs)
+    (λ c. search needs)
+    (λ c. simp length-take (omega arith))
+    (λ c κs. search needs)
+    (λ c κs. search needs)
+    (λ c κs. search needs)
+    (λ c. search needs)
+    (λ c. search needs))
