@@ -10,13 +10,13 @@ ghost use mathlib.Core.Path.{_≡_};
 ghost use Prim.Native.Nat.{_≤_, _<_};
 ghost use lib.ListN.{length};
 
-// The value of a digit, up to `F`.
+// The value of a digit, up to `f`.
 fn digit(b: u8) -> u8
     ensures { λ r. ⌜ r < 16 ⌝ }
 {
     match b {
         b'0'..=b'9' => b - b'0',
-        b'A'..=b'F' => b - 55,
+        b'a'..=b'f' => b - 87,
         _ => 0,
     }
 }

@@ -7,7 +7,6 @@
 // A line end is printed as |.
 use libc::STDIN_FILENO;
 use tree::Profile;
-ghost use mathlib.Core.Path.{_≡_};
 ghost use Prim.Native.Nat.{_≤_, _<_};
 ghost use lib.ListN.{length};
 

@@ -1,4 +1,4 @@
--- `try_fold::move_in` is safe: the parts are within their tables.
+-- `try_fold::move_in` is safe: the room is within the result.
 use lib.ListN.{length-take}
 use native.Mathlib.Omega.{arith}
 use borrow.Author.Needs.{needs}

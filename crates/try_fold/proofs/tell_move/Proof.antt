@@ -1,4 +1,4 @@
--- `try_fold::tell_move` is safe: the parts are within their tables.
+-- `try_fold::tell_move` is safe: the tables are within their words.
 use lib.ListN.{length-take}
 use native.Mathlib.Omega.{arith}
 use borrow.Author.Needs.{needs}

@@ -1,6 +1,5 @@
 -- `try_fold_run::print_list` is safe: the entries are within the list.
 use lib.ListN.{length-take}
-use Prim.Native.Nat.{_-_, _≤_}
 use native.Mathlib.Omega.{arith}
 use borrow.Author.Needs.{needs}
 use Rattle.try_fold_run.proofs.print_list.Statement.{statement}

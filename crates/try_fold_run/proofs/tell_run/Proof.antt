@@ -1,4 +1,4 @@
--- `try_fold_run::tell_run` is safe: the parts are within their tables.
+-- `try_fold_run::tell_run` is safe: the rooms are within the buffers.
 use lib.ListN.{length-take}
 use native.Mathlib.Omega.{arith}
 use borrow.Author.Needs.{needs}

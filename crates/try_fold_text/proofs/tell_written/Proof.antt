@@ -1,4 +1,4 @@
--- `try_fold_text::tell_written` is safe: the parts are within their tables.
+-- `try_fold_text::tell_written` is safe: the parts are within the text.
 use lib.ListN.{length-take}
 use native.Mathlib.Omega.{arith}
 use borrow.Author.Needs.{needs}
