@@ -1,7 +1,7 @@
 //! The largest plans that three files can give, all of 128 rows and 16,384 bytes.
 
 use reference::generate::padded;
-use reference::PROFILES;
+use reference::{Profile, PROFILES};
 use std::path::Path;
 use syncplan_tests::{arguments, check, Files, Folder, MOST_BYTES, MOST_ROWS};
 
@@ -37,7 +37,16 @@ fn file(folders: usize, files: &[(usize, usize)]) -> Vec<u8> {
     padded(text.as_bytes(), MOST_BYTES)
 }
 
-/// Runs the program on the largest files, with the usual stack and with a quarter of it.
+/// The kilobytes of stack that are enough: of the usual 8,192 a quarter, and more for the keys of
+/// three tables.
+fn little_stack(profile: Profile) -> usize {
+    match profile {
+        Profile::Exact => 2048,
+        Profile::Folded => 3072,
+    }
+}
+
+/// Runs the program on the largest files, with the usual stack and with little of it.
 fn due_with_little_stack(files: &Files, printed: &str) {
     assert!(printed.len() <= ROOM);
     let folder = Folder::new();
@@ -46,8 +55,9 @@ fn due_with_little_stack(files: &Files, printed: &str) {
     for profile in PROFILES {
         let mut command = folder.command_of(Path::new("/bin/sh"));
         let program = folder.command().get_program().to_os_string();
+        let limited = format!("ulimit -s {} && exec \"$0\" \"$@\"", little_stack(profile));
         command
-            .args(["-c", "ulimit -s 2048 && exec \"$0\" \"$@\""])
+            .args(["-c", &limited])
             .arg(program)
             .args(arguments(profile));
         check(&command.output().expect("a shell starts"), printed);
