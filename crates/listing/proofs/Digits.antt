@@ -17,7 +17,7 @@ use Rattle.listing.specs.Names.{packed}
 use Rattle.listing.specs.Values.{contentOf, decimalFrom, digestOf, digits, hexBytes, isDigest, isSize, sizeOf}
 use Rattle.listing.specs.Writing.{decimal, digestText, hex, hexDigit, sizeText}
 use Rattle.listing.proofs.Spelling.{Small, bytes-small, isPlain, packed-bytes}
-use Rattle.listing.proofs.Table.{every, every-at}
+use Rattle.tree.proofs.Every.{every, every-at}
 
 -- bytes that stand in words as they are
 unfoldable pub allPlain : List ℕ → Bool

@@ -1,5 +1,4 @@
 -- Laws of listings. The promises: Examples, RoundTrip, Accepted, Keyed; below them, from bytes up, what they rest on.
-pub mod Table
 pub mod Bytes
 pub mod Spelling
 pub mod Digits

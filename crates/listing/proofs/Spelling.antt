@@ -16,7 +16,7 @@ use Rattle.listing.specs.Names.{decode, decodeFrom, isName, nameOf, octa
 use Rattle.listing.specs.Writing.{asItIs, nameText, spell, spellByte}
 use Rattle.listing.specs.declared.Class.{Class}
 use Rattle.listing.specs.declared.Class.the-variants.{Plain, Escape, Blank, LineEnd, Hash, Mark, Refused}
-use Rattle.listing.proofs.Table.{every, every-at}
+use Rattle.tree.proofs.Every.{every, every-at}
 
 abbrev pub isPlain : Class → Bool
 isPlain Plain = true

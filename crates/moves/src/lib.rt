@@ -30,10 +30,12 @@ pub struct Span {
 fn tables_due(profile: Profile, target: &[u32], source: &[u32]) -> Answer
     ensures { λ r. ⌜ r ≡ tablesDue profile (now (target .entry)) (now (source .entry)) ⌝ }
 {
-    let first = rules::refusal(rules::check(profile, target), 2);
-    let second = rules::refusal(rules::check(profile, source), 3);
-    let third = rules::twins_refusal(rules::find_twins(profile, target), 2);
-    let last = rules::twins_refusal(rules::find_twins(profile, source), 3);
+    let t = rules::check(profile, target);
+    let s = rules::check(profile, source);
+    let first = rules::refusal(t, 2);
+    let second = rules::refusal(s, 3);
+    let third = rules::twins_refusal(t, 2);
+    let last = rules::twins_refusal(s, 3);
     rules::first_of(first, rules::first_of(second, rules::first_of(third, last)))
 }
 

@@ -138,9 +138,9 @@ module _ {p : Profile} {o l r s e : List ℕ} {q : ℕ} {b : Lent} {c : Counts} 
 pub tables-passed : (p : Profile) (o l r : List ℕ) → isAccepted (tablesDue p o l r) ≡ true → Passes p o × Passes p l × Passes p r
 unfolding tablesDue twinsOf
 tables-passed p o l r h =
-    let a = first-passed (refusalOf (checkedIn p o) 1) _ (twinsOf p o l r) h in
-    let b = first-passed (refusalOf (checkedIn p l) 2) _ (twinsOf p o l r) (a .1) in
-    let c = first-both (refusalOf (checkedIn p r) 3) (twinsOf p o l r) (b .1) in
+    let a = first-passed (refusalOf (checkedIn p o) 1) _ (twinsOf (twins p o) (twins p l) (twins p r)) h in
+    let b = first-passed (refusalOf (checkedIn p l) 2) _ (twinsOf (twins p o) (twins p l) (twins p r)) (a .1) in
+    let c = first-both (refusalOf (checkedIn p r) 3) (twinsOf (twins p o) (twins p l) (twins p r)) (b .1) in
     let d = first-passed (twinsDue (twins p o) 1) _ (twinsDue (twins p r) 3) (c .1) in
     let e = first-both (twinsDue (twins p l) 2) (twinsDue (twins p r) 3) (d .1) in (
       record { checked-fine = refusal-fine (checkedIn p o) 1 (a .0); no-twins = twins-fine p o 1 (d .0) },

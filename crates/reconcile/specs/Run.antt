@@ -15,6 +15,7 @@ use Rattle.row.specs.Buffer.{over}
 use Rattle.row.specs.Tree.{table, treeOf}
 use Rattle.rules.specs.declared.Answer.{Answer}
 use Rattle.rules.specs.Answer.{isAccepted}
+use Rattle.rules.specs.declared.Checked.{Checked}
 use Rattle.rules.specs.Keyed.{checkedIn, twins}
 use Rattle.rules.specs.Refusal.{refusalOf, twinsDue}
 use Rattle.rules.specs.Faults.{firstRefusal, unless, roomRule}
@@ -45,8 +46,8 @@ abbrev pub countsOf : Outcome → Counts
 countsOf u = record { archive = suc (size (u .archive)); left = suc (size (u .left)); right = suc (size (u .right)); list = length (u .lines) }
 
 -- number 16 of archive, left and right
-unfoldable pub twinsOf : Profile → List ℕ → List ℕ → List ℕ → Answer
-twinsOf p o l r = firstRefusal (twinsDue (twins p o) 1 ∷ twinsDue (twins p l) 2 ∷ []) (twinsDue (twins p r) 3)
+unfoldable pub twinsOf : Checked → Checked → Checked → Answer
+twinsOf o l r = firstRefusal (twinsDue o 1 ∷ twinsDue l 2 ∷ []) (twinsDue r 3)
 
 -- the tables' faults: 1 and 2 of archive, left and right, then 16 of each
 unfoldable pub tablesDue : Profile → List ℕ → List ℕ → List ℕ → Answer
@@ -56,7 +57,7 @@ tablesDue p o l r =
     refusalOf (checkedIn p l) 2 ∷
     refusalOf (checkedIn p r) 3 ∷
     [])
-    (twinsOf p o l r)
+    (twinsOf (twins p o) (twins p l) (twins p r))
 
 -- the rooms' faults: archive, left, right, list; the numbers are the words lent
 unfoldable pub roomsDue : Counts → ℕ → ℕ → ℕ → ℕ → Answer

@@ -1,6 +1,7 @@
 // Reconciling three tables: the new archive, the new left, the new right, the list and the tally.
 use results::Tree;
 use rules::Answer;
+use rules::Seen;
 use tally::Tally;
 use tree::Profile;
 ghost use mathlib.Core.Path.{_≡_};
@@ -42,12 +43,12 @@ pub struct Ran {
 }
 
 // Number 16 of archive, left and right.
-fn twins_due(profile: Profile, o: &[u32], l: &[u32], r: &[u32]) -> Answer
-    ensures { λ a. ⌜ a ≡ twinsOf profile (now (o .entry)) (now (l .entry)) (now (r .entry)) ⌝ }
+fn twins_due(o: Seen, l: Seen, r: Seen) -> Answer
+    ensures { λ a. ⌜ a ≡ twinsOf (o .twins) (l .twins) (r .twins) ⌝ }
 {
-    let archive = rules::twins_refusal(rules::find_twins(profile, o), 1);
-    let left = rules::twins_refusal(rules::find_twins(profile, l), 2);
-    let right = rules::twins_refusal(rules::find_twins(profile, r), 3);
+    let archive = rules::twins_refusal(o, 1);
+    let left = rules::twins_refusal(l, 2);
+    let right = rules::twins_refusal(r, 3);
     rules::first_of(archive, rules::first_of(left, right))
 }
 
@@ -55,10 +56,13 @@ fn twins_due(profile: Profile, o: &[u32], l: &[u32], r: &[u32]) -> Answer
 fn tables_due(profile: Profile, o: &[u32], l: &[u32], r: &[u32]) -> Answer
     ensures { λ a. ⌜ a ≡ tablesDue profile (now (o .entry)) (now (l .entry)) (now (r .entry)) ⌝ }
 {
-    let archive = rules::refusal(rules::check(profile, o), 1);
-    let left = rules::refusal(rules::check(profile, l), 2);
-    let right = rules::refusal(rules::check(profile, r), 3);
-    let twins = twins_due(profile, o, l, r);
+    let a = rules::check(profile, o);
+    let b = rules::check(profile, l);
+    let c = rules::check(profile, r);
+    let archive = rules::refusal(a, 1);
+    let left = rules::refusal(b, 2);
+    let right = rules::refusal(c, 3);
+    let twins = twins_due(a, b, c);
     rules::first_of(
         archive,
         rules::first_of(left, rules::first_of(right, twins)),

@@ -6,12 +6,12 @@ ghost use Prim.Native.Nat.{_+_, _*_, _%_, _≤_, _<_};
 ghost use lib.ListN.{length, getD};
 ghost use Rattle.tree.specs.Name.{cmp};
 ghost use Rattle.tree.specs.declared.Profile.the-variants.{Folded};
-ghost use Rattle.tree.specs.Key.{lower as lowerOf, lowerWord, key};
+ghost use Rattle.tree.specs.Key.{lowerWord, key};
 ghost use Rattle.tree.specs.Same.{sameWords};
 ghost use Rattle.row.specs.Table.{rowAt, name};
 ghost use Rattle.row.specs.Order.{ordered};
 ghost use Rattle.row.specs.Buffer.{written, over};
-ghost use Rattle.row.specs.Keyed.{keyedRow, keyed};
+ghost use Rattle.row.specs.Keyed.{keyWord, keyedRow, keyed};
 
 // How two names stand to each other.
 pub enum Order {
@@ -35,15 +35,38 @@ pub fn wide(x: u32) -> usize
     x as usize
 }
 
-// The order of two lists of as many words: the first that differ decide.
-pub fn compare_words(a: &[u32], b: &[u32]) -> Order
+// A to Z as a to z in each of a word's four bytes, at once: bit 7 of a byte in p says that its lower seven bits are 65 or more,
+// in q that they are 91 or more, and no sum goes over into the next byte.
+fn lower_word(x: u32) -> u32
+    ensures { λ r. ⌜ r ≡ lowerWord x ⌝ }
+{
+    let low = x & 2139062143;
+    let p = low + 1061109567;
+    let q = low + 623191333;
+    let letters = (p ^ q) & 2155905152;
+    let capitals = letters & (x ^ 2155905152);
+    x + capitals / 4
+}
+
+// A word of a name as it stands in the name's key.
+fn key_word(profile: Profile, x: u32) -> u32
+    ensures { λ r. ⌜ r ≡ keyWord profile x ⌝ }
+{
+    match profile {
+        Profile::Exact => x,
+        Profile::Folded => lower_word(x),
+    }
+}
+
+// The order of two names by their keys: the first words that differ decide.
+pub fn compare_keys(profile: Profile, a: &[u32], b: &[u32]) -> Order
     requires { ⌜ length (now a) ≡ length (now b) ⌝ }
-    ensures { λ r. ⌜ r ≡ ordered (cmp (now (a .entry)) (now (b .entry))) ⌝ }
+    ensures { λ r. ⌜ r ≡ ordered (cmp (key profile (now (a .entry))) (key profile (now (b .entry)))) ⌝ }
 {
     let mut k = 0;
     while k < a.len() {
-        let x = a[k];
-        let y = b[k];
+        let x = key_word(profile, a[k]);
+        let y = key_word(profile, b[k]);
         if x < y {
             return Order::Less;
         }
@@ -53,6 +76,14 @@ pub fn compare_words(a: &[u32], b: &[u32]) -> Order
         k += 1;
     }
     Order::Same
+}
+
+// The order of two lists of as many words.
+pub fn compare_words(a: &[u32], b: &[u32]) -> Order
+    requires { ⌜ length (now a) ≡ length (now b) ⌝ }
+    ensures { λ r. ⌜ r ≡ ordered (cmp (now (a .entry)) (now (b .entry))) ⌝ }
+{
+    compare_keys(Profile::Exact, a, b)
 }
 
 // The order of the names of row i of a and row j of b.
@@ -95,67 +126,6 @@ pub fn copy_words(src: &[u32], dst: &mut [u32], at: usize) -> usize
         i += 1;
     }
     at + src.len()
-}
-
-// A to Z as a to z.
-fn lower(b: u32) -> u32
-    ensures { λ r. ⌜ (r ≡ lowerOf b) × (b < 256 → r < 256) ⌝ }
-{
-    if 65 <= b {
-        if b <= 90 {
-            return b + 32;
-        }
-    }
-    b
-}
-
-// Each of a word's four bytes so. Most words of a name are zero, past its end.
-fn lower_word(x: u32) -> u32
-    ensures { λ r. ⌜ r ≡ lowerWord x ⌝ }
-{
-    if x == 0 {
-        return 0;
-    }
-    let a = lower(x / 16777216);
-    let b = lower(x / 65536 % 256);
-    let c = lower(x / 256 % 256);
-    let d = lower(x % 256);
-    a * 16777216 + b * 65536 + c * 256 + d
-}
-
-// The order of two lists of as many words where letter case is ignored. Words that are the same need no folding.
-fn compare_lower(a: &[u32], b: &[u32]) -> Order
-    requires { ⌜ length (now a) ≡ length (now b) ⌝ }
-    ensures { λ r. ⌜ r ≡ ordered (cmp (map lowerWord (now (a .entry))) (map lowerWord (now (b .entry)))) ⌝ }
-{
-    let mut k = 0;
-    while k < a.len() {
-        let x = a[k];
-        let y = b[k];
-        if x != y {
-            let u = lower_word(x);
-            let v = lower_word(y);
-            if u < v {
-                return Order::Less;
-            }
-            if v < u {
-                return Order::Greater;
-            }
-        }
-        k += 1;
-    }
-    Order::Same
-}
-
-// The order of two names by their keys.
-pub fn compare_keys(profile: Profile, a: &[u32], b: &[u32]) -> Order
-    requires { ⌜ length (now a) ≡ length (now b) ⌝ }
-    ensures { λ r. ⌜ r ≡ ordered (cmp (key profile (now (a .entry))) (key profile (now (b .entry)))) ⌝ }
-{
-    match profile {
-        Profile::Exact => compare_words(a, b),
-        Profile::Folded => compare_lower(a, b),
-    }
 }
 
 // The words of src, letter case ignored, into dst at place at.

@@ -38,6 +38,13 @@ refusal-fine Fine side h = refl
 refusal-fine BadLength side h = never (cc)
 refusal-fine (BadRow i) side h = never (cc)
 
+-- what is asked after a table was checked counts only where nothing was wrong with it
+pub first-then : (c : Checked) (side : ℕ) {x y : Answer} → (c ≡ Fine → x ≡ y) → firstRefusal (refusalOf c side ∷ []) x ≡ firstRefusal (refusalOf c side ∷ []) y
+unfolding firstRefusal
+first-then Fine side h = h refl
+first-then BadLength side h = refl
+first-then (BadRow i) side h = refl
+
 pub unless-true : (b : Bool) (number side : ℕ) → isAccepted (unless b number side) ≡ true → b ≡ true
 unless-true true number side h = refl
 unless-true false number side h = never (cc)

@@ -1,7 +1,7 @@
 -- The row rules in the words that the code reads: the row before, the sibling before, the lowest broken row.
 use mathlib.Core.Path.{_≡_, refl, sym, _∙_}
 use mathlib.Core.List.{List, []}
-use mathlib.Core.Bool.{Bool, true, false, _&&_}
+use mathlib.Core.Bool.{Bool, true, false, cond, not, _&&_}
 use native.Mathlib.Omega.{arith}
 use native.Mathlib.Nat.{not-suc-le-zero, add-zero, zero-add}
 use native.Mathlib.Numerals.{add-one, sub-one}
@@ -11,17 +11,23 @@ use Prim.Native.Nat.{ℕ, zero, suc, _+_, _-_, _/_, _%_, _≤_, _<_}
 use borrow.Author.Tests.{eq-eqb, ne-eqb, lt-ltb, le-ltb, le-leb, lt-leb, leb-true, leb-false}
 use Rattle.tree.specs.Name.{cmp}
 use Rattle.tree.specs.declared.Profile.{Profile}
+use Rattle.tree.specs.declared.Profile.the-variants.{Exact, Folded}
 use Rattle.tree.specs.Key.{key}
 use Rattle.tree.specs.Rules.{zeros, goodName}
 use Rattle.row.specs.Table.{Row, rowAt, rows, depth, kind, name}
 use Rattle.row.specs.Order.{ordered}
 use Rattle.row.specs.declared.Order.{Order}
-use Rattle.row.specs.declared.Order.the-variants.{Less}
+use Rattle.row.specs.declared.Order.the-variants.{Less, Same, Greater}
 use Rattle.tree.proofs.Order.{compare-refl, compare-below, compare-above}
+use Rattle.tree.proofs.Never.{never}
 use Rattle.row.proofs.Table.{rows-cons, rows-nil}
 use Rattle.rules.specs.Rules.{depthRule, kindRule, sized, before}
-use Rattle.rules.specs.Keyed.{sibling, inOrder, okRowIn, leadBy, lowest, checkedIn}
+use Rattle.rules.specs.Keyed.{sibling, inOrder, okRowIn, isSame, noTwin, leadBy, lowest, checkedIn}
+use Rattle.rules.specs.declared.Checked.{Checked}
 use Rattle.rules.specs.declared.Checked.the-variants.{Fine, BadLength, BadRow}
+use Rattle.rules.specs.declared.Fit.{Fit}
+use Rattle.rules.specs.declared.Fit.the-variants.{Good, Twin, Bad}
+use Rattle.rules.specs.Seen.{fitAfter, fitOf, orRow}
 
 leb-down : (d e : ℕ) → 1 ≤ d → leb (d - 1) e ≡ leb d (e + 1)
 leb-down d e h = go (leb d (e + 1)) refl
@@ -72,17 +78,46 @@ module _ (p : Profile) (w : List ℕ) (i d : ℕ) where
   sought-deeper zero s h e = absurd (not-suc-le-zero h)
   sought-deeper (suc j) s h e = s ∙ rw (compare-above (depth (rowAt w j)) d (rw sub-one at e), sub-one)
 
+-- how a row follows those before it: the rules in turn, and then the sibling before
+fit-turns : (p : Profile) (a b c : Bool) (o : Order) → cond (a && b && c && inOrder p o) (cond (not (isSame o)) Good Twin) Bad ≡ cond a (cond b (cond c (fitAfter p o) Bad) Bad) Bad
+fit-turns p false b c o = refl
+fit-turns p true false c o = refl
+fit-turns p true true false o = refl
+fit-turns p true true true Less = refl
+fit-turns Exact true true true Same = refl
+fit-turns Folded true true true Same = refl
+fit-turns p true true true Greater = refl
+
 -- row 0, and any other
 module _ (p : Profile) (w : List ℕ) where
-  pub ok-root : (i : ℕ) → i ≡ 0 → okRowIn p (before w i) (rowAt w i) ≡ zeros (rowAt w i)
-  unfolding okRowIn before
-  ok-root i h = rw h
+  pub fit-root : (i : ℕ) → i ≡ 0 → fitOf p (before w i) (rowAt w i) ≡ cond (zeros (rowAt w i)) Good Bad
+  unfolding okRowIn before sibling
+  fit-root i h = rw h
 
-  pub ok-row : (i : ℕ) → 0 < i → okRowIn p (before w i) (rowAt w i)
-      ≡ (depthRule (rowAt w (i - 1)) (rowAt w i) && goodName (name (rowAt w i)) && kindRule (rowAt w i) && inOrder p (siblingAt p w i))
+  pub fit-row : (i : ℕ) → 0 < i → fitOf p (before w i) (rowAt w i)
+      ≡ cond (depthRule (rowAt w (i - 1)) (rowAt w i)) (cond (goodName (name (rowAt w i))) (cond (kindRule (rowAt w i)) (fitAfter p (siblingAt p w i)) Bad) Bad) Bad
   unfolding okRowIn before
-  ok-row zero h = absurd (not-suc-le-zero h)
-  ok-row (suc i) h = rw sub-one
+  fit-row zero h = absurd (not-suc-le-zero h)
+  fit-row (suc i) h = rw sub-one (fit-turns p (depthRule (rowAt w i) (rowAt w (suc i))) (goodName (name (rowAt w (suc i)))) (kindRule (rowAt w (suc i))) (siblingAt p w (suc i)))
+
+-- what a row's fit says of the two tests
+module _ (p : Profile) (ps : List Row) (r : Row) where
+  abbrev Tells : Bool → Bool → Fit → Type 0
+  Tells ok other f = (f ≡ Good → (ok ≡ true) × (other ≡ true)) × (f ≡ Twin → (ok ≡ true) × (other ≡ false)) × (f ≡ Bad → ok ≡ false)
+
+  tells : (ok other : Bool) → Tells ok other (cond ok (cond other Good Twin) Bad)
+  tells true true = (λ e. (refl, refl), λ e. never (cc), λ e. never (cc))
+  tells true false = (λ e. never (cc), λ e. (refl, refl), λ e. never (cc))
+  tells false other = (λ e. never (cc), λ e. never (cc), λ e. refl)
+
+  pub fit-good : fitOf p ps r ≡ Good → (okRowIn p ps r ≡ true) × (noTwin p ps r ≡ true)
+  fit-good = tells (okRowIn p ps r) (noTwin p ps r) .0
+
+  pub fit-twin : fitOf p ps r ≡ Twin → (okRowIn p ps r ≡ true) × (noTwin p ps r ≡ false)
+  fit-twin = tells (okRowIn p ps r) (noTwin p ps r) .1
+
+  pub fit-bad : fitOf p ps r ≡ Bad → okRowIn p ps r ≡ false
+  fit-bad = tells (okRowIn p ps r) (noTwin p ps r) .2
 
 -- 20 words times 1 to 4,096
 module _ (w : List ℕ) where
@@ -93,10 +128,6 @@ module _ (w : List ℕ) where
   pub sized-none : length w % 20 ≡ 0 → length w / 20 < 1 → sized w ≡ false
   unfolding sized
   sized-none m h = rw (eq-eqb _ _ m, lt-leb _ _ h)
-
-  pub sized-many : length w % 20 ≡ 0 → 1 ≤ length w / 20 → 4096 < length w / 20 → sized w ≡ false
-  unfolding sized
-  sized-many m h g = rw (eq-eqb _ _ m, le-leb _ _ h, lt-leb _ _ g)
 
   pub sized-true : length w % 20 ≡ 0 → 1 ≤ length w / 20 → length w / 20 ≤ 4096 → sized w ≡ true
   unfolding sized
@@ -137,3 +168,26 @@ module _ (t : List Row → Row → Bool) (w : List ℕ) where
     lowest-fine h p =
         let q : leadBy t [] (rows w) ≡ i = p ∙ rw (rows-nil w i h, add-zero) in
         rw (q, le-ltb _ _ h)
+
+-- what is told of the rows before row i: the lowest that fails a test, or that all pass it
+module _ (t : List Row → Row → Bool) (w : List ℕ) where
+  abbrev pub Told : Checked → ℕ → Type 0
+  Told Fine i = Passed t w i
+  Told BadLength i = ⊥
+  Told (BadRow j) i = lowest t w ≡ BadRow j
+
+  module _ (i : ℕ) (h : i < length w / 20) where
+    pub told-next : (c : Checked) → t (before w i) (rowAt w i) ≡ true → Told c i → Told c (i + 1)
+    told-next Fine e g = passed-next t w i h e g
+    told-next BadLength e g = g
+    told-next (BadRow j) e g = g
+
+    pub told-row : (c : Checked) → t (before w i) (rowAt w i) ≡ false → Told c i → Told (orRow c i) (i + 1)
+    told-row Fine e g = lowest-row t w i h e g
+    told-row BadLength e g = g
+    told-row (BadRow j) e g = g
+
+  pub told-all : (i : ℕ) → length w / 20 ≤ i → (c : Checked) → Told c i → c ≡ lowest t w
+  told-all i h Fine g = sym (lowest-fine t w i h g)
+  told-all i h BadLength g = absurd g
+  told-all i h (BadRow j) g = sym g

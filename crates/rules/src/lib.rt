@@ -11,11 +11,11 @@ ghost use Prim.Native.Nat.{_+_, _-_, _*_, _≤_, _<_};
 ghost use lib.ListN.{length, drop, getD};
 ghost use Rattle.tree.specs.Name.{cmp};
 ghost use Rattle.tree.specs.Key.{key};
-ghost use Rattle.tree.specs.declared.Profile.the-variants.{Folded};
 ghost use Rattle.row.specs.Order.{ordered};
 ghost use Rattle.row.specs.Table.{rowAt, name, depth};
-ghost use Rattle.rules.specs.Rules.{before, depthRule, kindRule};
-ghost use Rattle.rules.specs.Keyed.{sibling as siblingOf, inOrder, isSame, noTwin, okRowIn, lowest, checkedIn, twins};
+ghost use Rattle.rules.specs.Rules.{before, depthRule, kindRule, sized};
+ghost use Rattle.rules.specs.Keyed.{sibling as siblingOf};
+ghost use Rattle.rules.specs.Seen.{fitAfter, fitOf, orRow, SeesRows, Sees};
 ghost use Rattle.rules.specs.Refusal.{refusalOf, twinsDue};
 ghost use Rattle.rules.specs.Faults.{firstRefusal, unless, roomRule};
 ghost use Rattle.rules.specs.Contract.{CheckContract};
@@ -37,6 +37,19 @@ pub enum Checked {
     Fine,
     BadLength,
     BadRow(usize),
+}
+
+// What is wrong with a table: for numbers 1 and 2 and, where that is nothing, for number 16.
+pub struct Seen {
+    pub rows: Checked,
+    pub twins: Checked,
+}
+
+// How a row follows those before it: well, with the key of the sibling before where letter case is ignored, or not at all.
+pub enum Fit {
+    Good,
+    Twin,
+    Bad,
 }
 
 // Whether row i is not too deep, for any row and for the row before it.
@@ -102,110 +115,111 @@ fn sibling(profile: Profile, t: &[u32], i: usize) -> Order
     Order::Less
 }
 
-// Whether a row may follow a sibling that stands so to it, as far as number 2 goes.
-fn in_order(profile: Profile, o: Order) -> bool
-    ensures { λ r. ⌜ r ≡ inOrder profile o ⌝ }
+// How a row follows a sibling that stands so to it.
+fn fit_after(profile: Profile, o: Order) -> Fit
+    ensures { λ r. ⌜ r ≡ fitAfter profile o ⌝ }
 {
     match o {
-        Order::Less => true,
+        Order::Less => Fit::Good,
         Order::Same => match profile {
-            Profile::Exact => false,
-            Profile::Folded => true,
+            Profile::Exact => Fit::Bad,
+            Profile::Folded => Fit::Twin,
         },
-        Order::Greater => false,
+        Order::Greater => Fit::Bad,
     }
 }
 
-// Whether row i may follow the rows before it, as far as number 2 goes.
-fn row_ok(profile: Profile, t: &[u32], i: usize) -> bool
+// How row i follows the rows before it.
+fn row_fit(profile: Profile, t: &[u32], i: usize) -> Fit
     requires { ⌜ 20 * i + 20 ≤ length (now t) ⌝ }
-    ensures { λ r. ⌜ r ≡ okRowIn profile (before (now (t .entry)) i) (rowAt (now (t .entry)) i) ⌝ }
+    ensures { λ r. ⌜ r ≡ fitOf profile (before (now (t .entry)) i) (rowAt (now (t .entry)) i) ⌝ }
 {
     let a = 20 * i;
     let b = a + 20;
     if i == 0 {
-        return all_zero(&t[a..b]);
+        if all_zero(&t[a..b]) {
+            return Fit::Good;
+        }
+        return Fit::Bad;
     }
     let p = a + 2;
     let q = p + 8;
     if depth_ok(t, i) {
         if good_name(&t[p..q]) {
             if kind_ok(t, i) {
-                return in_order(profile, sibling(profile, t, i));
+                return fit_after(profile, sibling(profile, t, i));
             }
         }
     }
-    false
+    Fit::Bad
 }
 
-// What is wrong with a table for numbers 1 and 2: its length, or the lowest row that breaks the rules.
-pub fn check(profile: Profile, t: &[u32]) -> Checked
-    ensures { λ r. ⌜ r ≡ checkedIn profile (now (t .entry)) ⌝ }
+// What was found, or row i where that is nothing.
+fn or_row(found: Checked, i: usize) -> Checked
+    ensures { λ r. ⌜ r ≡ orRow found i ⌝ }
+{
+    match found {
+        Checked::Fine => Checked::BadRow(i),
+        Checked::BadLength => found,
+        Checked::BadRow(_) => found,
+    }
+}
+
+// The lowest row that breaks the rules, and the lowest that has the key of the sibling before it.
+fn check_rows(profile: Profile, t: &[u32]) -> Seen
+    ensures { λ r. ⌜ SeesRows profile (now (t .entry)) r ⌝ }
+{
+    let n = t.len() / 20;
+    let mut twins = Checked::Fine;
+    let mut i = 0;
+    while i < n {
+        match row_fit(profile, t, i) {
+            Fit::Good => {}
+            Fit::Twin => twins = or_row(twins, i),
+            Fit::Bad => {
+                let rows = Checked::BadRow(i);
+                return Seen { rows, twins };
+            }
+        }
+        i += 1;
+    }
+    let rows = Checked::Fine;
+    Seen { rows, twins }
+}
+
+// Whether a table is 20 words times 1 to 4,096.
+fn is_sized(t: &[u32]) -> bool
+    ensures { λ r. ⌜ r ≡ sized (now (t .entry)) ⌝ }
 {
     let n = t.len() / 20;
     if t.len() % 20 != 0 {
-        return Checked::BadLength;
+        return false;
     }
     if n < 1 {
-        return Checked::BadLength;
+        return false;
     }
-    if 4096 < n {
-        return Checked::BadLength;
-    }
-    let mut i = 0;
-    while i < n {
-        if row_ok(profile, t, i) {
-            i += 1;
-        } else {
-            return Checked::BadRow(i);
-        }
-    }
-    Checked::Fine
+    n <= 4096
 }
 
-// Whether row i is not equal after folding to the sibling before it.
-fn no_twin(t: &[u32], i: usize) -> bool
-    requires { ⌜ 20 * i + 20 ≤ length (now t) ⌝ }
-    ensures { λ r. ⌜ r ≡ noTwin Folded (before (now (t .entry)) i) (rowAt (now (t .entry)) i) ⌝ }
+// What is wrong with a table.
+pub fn check(profile: Profile, t: &[u32]) -> Seen
+    ensures { λ r. ⌜ Sees profile (now (t .entry)) r ⌝ }
 {
-    match sibling(Profile::Folded, t, i) {
-        Order::Less => true,
-        Order::Same => false,
-        Order::Greater => true,
+    if is_sized(t) {
+        return check_rows(profile, t);
     }
-}
-
-// The lowest row that is equal after folding to the sibling before it.
-fn lowest_twin(t: &[u32]) -> Checked
-    ensures { λ r. ⌜ r ≡ lowest (noTwin Folded) (now (t .entry)) ⌝ }
-{
-    let n = t.len() / 20;
-    let mut i = 0;
-    while i < n {
-        if no_twin(t, i) {
-            i += 1;
-        } else {
-            return Checked::BadRow(i);
-        }
-    }
-    Checked::Fine
-}
-
-// What is wrong with a table for number 16.
-pub fn find_twins(profile: Profile, t: &[u32]) -> Checked
-    ensures { λ r. ⌜ r ≡ twins profile (now (t .entry)) ⌝ }
-{
-    match profile {
-        Profile::Exact => Checked::Fine,
-        Profile::Folded => lowest_twin(t),
+    Seen {
+        rows: Checked::BadLength,
+        twins: Checked::Fine,
     }
 }
 
 // The answer to a table of a side: numbers 1 and 2.
-pub fn refusal(c: Checked, side: u32) -> Answer
-    ensures { λ r. ⌜ r ≡ refusalOf c side ⌝ }
+pub fn refusal(seen: Seen, side: u32) -> Answer
+    ensures { λ r. ⌜ r ≡ refusalOf (seen .rows) side ⌝ }
 {
-    match c {
+    let rows = seen.rows;
+    match rows {
         Checked::Fine => Answer::Accepted { place: 0 },
         Checked::BadLength => Answer::Refused {
             number: 1,
@@ -221,10 +235,11 @@ pub fn refusal(c: Checked, side: u32) -> Answer
 }
 
 // The answer to a table of a side: number 16.
-pub fn twins_refusal(c: Checked, side: u32) -> Answer
-    ensures { λ r. ⌜ r ≡ twinsDue c side ⌝ }
+pub fn twins_refusal(seen: Seen, side: u32) -> Answer
+    ensures { λ r. ⌜ r ≡ twinsDue (seen .twins) side ⌝ }
 {
-    match c {
+    let twins = seen.twins;
+    match twins {
         Checked::Fine => Answer::Accepted { place: 0 },
         Checked::BadLength => Answer::Accepted { place: 0 },
         Checked::BadRow(i) => Answer::Refused {
@@ -277,6 +292,6 @@ pub fn has_room(n: usize, lent: usize) -> bool
 pub fn check_table(profile: Profile, t: &[u32]) -> Answer
     ensures { λ r. ⌜ CheckContract profile (now (t .entry)) r ⌝ }
 {
-    let due = refusal(check(profile, t), 1);
-    first_of(due, twins_refusal(find_twins(profile, t), 1))
+    let seen = check(profile, t);
+    first_of(refusal(seen, 1), twins_refusal(seen, 1))
 }

@@ -14,7 +14,7 @@ use Rattle.listing.specs.declared.Class.{Class}
 use Rattle.listing.specs.declared.Class.the-variants.{Plain, Escape, Blank, LineEnd, Hash, Mark, Refused}
 use Rattle.listing.specs.declared.Mode.{Mode}
 use Rattle.listing.specs.declared.Mode.the-variants.{Body, BodyBack}
-use Rattle.listing.proofs.Table.{every, every-at}
+use Rattle.tree.proofs.Every.{every, every-at}
 
 -- classes that never part words
 abbrev solid : Class → Bool

@@ -6,7 +6,7 @@ use lib.Dec.{eqb}
 use Prim.Native.Nat.{ℕ, _+_, _-_, _≤_, _<_}
 use borrow.Author.Tests.{ne-eqb}
 use Rattle.listing.specs.Writing.{asItIs}
-use Rattle.listing.proofs.Table.{every, every-at}
+use Rattle.tree.proofs.Every.{every, every-at}
 
 abbrev agrees : Bool → Bool → Bool
 agrees true x = x

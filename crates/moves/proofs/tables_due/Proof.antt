@@ -1,7 +1,8 @@
--- `moves::tables_due` meets its contract.
+-- `moves::tables_due` meets its contract: number 16 of the two counts where nothing is wrong with either.
 use mathlib.Core.Path.{refl}
 use borrow.Author.Needs.{needs}
 use Rattle.rules.specs.Faults.{firstRefusal}
+use Rattle.rules.proofs.Faults.{first-then}
 use Rattle.moves.specs.Pieces.{tablesDue}
 use Rattle.moves.proofs.tables_due.Statement.{statement}
 use Rattle.moves.proofs.tables_due.Tie as tie
@@ -9,31 +10,29 @@ use Rattle.moves.proofs.tables_due.Tie as tie
 returns : tie.Need-returns
 unfolding tablesDue firstRefusal
 returns c =
-    let source = c .before .before .before in
-    let target = source .before .before in
-    let second = target .before .before in
-    let first = second .before .before in
+    let last = c .before .before .before in
+    let third = last .before in
+    let second = third .before in
+    let first = second .before in
+    let S = first .before .check2 .ensures in
+    let T = first .before .before .check .ensures in
     rw (
       c .first-of3 .ensures,
       c .before .first-of2 .ensures,
       c .before .before .first-of .ensures,
-      source .twins-refusal2 .ensures,
-      source .before .find-twins2 .ensures,
-      target .twins-refusal .ensures,
-      target .before .find-twins .ensures,
+      last .twins-refusal2 .ensures,
+      third .twins-refusal .ensures,
       second .refusal2 .ensures,
-      second .before .check2 .ensures,
       first .refusal .ensures,
-      first .before .check .ensures,
+      S .seen-rows,
+      T .seen-rows,
     )
-    refl
+    (first-then _ 2 (λ t. first-then _ 3 (λ s. rw (T .seen-twins t, S .seen-twins s) refl)))
 
 pub tables-due-spec : {M : Type 1} → statement M
 tables-due-spec =
     tie.close
     (tie.spec
-    (λ c κs. search needs)
-    (λ c κs. search needs)
     (λ c κs. search needs)
     (λ c κs. search needs)
     (λ c κs. search needs)

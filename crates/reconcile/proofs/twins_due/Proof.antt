@@ -10,17 +10,13 @@ returns : tie.Need-returns
 unfolding twinsOf firstRefusal
 returns c =
     let right = c .before .before in
-    let left = right .before .before in
-    let archive = left .before .before in
+    let left = right .before in
     rw (
       c .first-of2 .ensures,
       c .before .first-of .ensures,
       right .twins-refusal3 .ensures,
-      right .before .find-twins3 .ensures,
       left .twins-refusal2 .ensures,
-      left .before .find-twins2 .ensures,
-      archive .twins-refusal .ensures,
-      archive .before .find-twins .ensures,
+      left .before .twins-refusal .ensures,
     )
     refl
 
@@ -28,9 +24,6 @@ pub twins-due-spec : {M : Type 1} → statement M
 twins-due-spec =
     tie.close
     (tie.spec
-    (λ c κs. search needs)
-    (λ c κs. search needs)
-    (λ c κs. search needs)
     (λ c κs. search needs)
     (λ c κs. search needs)
     (λ c κs. search needs)

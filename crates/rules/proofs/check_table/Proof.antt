@@ -1,6 +1,10 @@
 -- `rules::check_table` meets its contract: what the check found, answered for side 1.
-use mathlib.Core.Path.{_≡_, _∙_}
+use mathlib.Core.Path.{_≡_, ap, _∙_}
+use Rattle.rules.specs.declared.Checked.{Checked}
+use Rattle.rules.specs.Keyed.{checkedIn}
+use Rattle.rules.specs.Refusal.{twinsDue}
 use Rattle.rules.specs.Contract.{checkDue}
+use Rattle.rules.proofs.Faults.{first-then}
 use Rattle.rules.proofs.Says.{says-due, numbered-check}
 use borrow.Author.Needs.{needs}
 use Rattle.rules.proofs.check_table.Statement.{statement}
@@ -9,18 +13,16 @@ use Rattle.rules.proofs.check_table.Tie as tie
 returns : tie.Need-returns
 unfolding checkDue
 returns c =
-    let a = c .before .before .before .before .before .before .args in
-    let r = c .before .before .before in
-    let e : c .first-of .result ≡ checkDue (a .profile) (a .t .now) = c .first-of .ensures ∙ rw (r .refusal .ensures, r .before .check .ensures, c .before .twins-refusal .ensures, c .before .before .find-twins .ensures) in
-    record { says = rw e (says-due (checkDue (a .profile) (a .t .now)) (numbered-check (a .profile) (a .t .now))) }
+    let r = c .before .before in
+    let s = r .before .check .ensures in
+    let a = r .before .before .before .args in
+    let p = a .profile in
+    let w = a .t .now in
+    let e : c .first-of .result ≡ checkDue p w =
+    c .first-of .ensures
+    ∙ rw (r .refusal .ensures, s .seen-rows, c .before .twins-refusal .ensures)
+    (first-then (checkedIn p w) 1 (λ f. ap (λ (x : Checked). twinsDue x 1) (s .seen-twins f))) in
+    record { says = rw e (says-due (checkDue p w) (numbered-check p w)) }
 
 pub check-table-spec : {M : Type 1} → statement M
-check-table-spec =
-    tie.close
-    (tie.spec
-    (λ c κs. search needs)
-    (λ c κs. search needs)
-    (λ c κs. search needs)
-    (λ c κs. search needs)
-    (λ c κs. search needs)
-    returns)
+check-table-spec = tie.close (tie.spec (λ c κs. search needs) (λ c κs. search needs) (λ c κs. search needs) (λ c κs. search needs) returns)

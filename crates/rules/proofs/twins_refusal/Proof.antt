@@ -4,7 +4,7 @@ use Rattle.rules.proofs.twins_refusal.Statement.{statement}
 use Rattle.rules.proofs.twins_refusal.Tie as tie
 
 returns-3 : tie.Need-returns-3
-returns-3 c = rw (c .before .c .given .1)
+returns-3 c = rw (c .before .twins .given .1)
 
 pub twins-refusal-spec : {M : Type 1} → statement M
 twins-refusal-spec =
