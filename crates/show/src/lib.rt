@@ -1,5 +1,7 @@
 // Prints answers, results and rows, for the programs that try the calls.
 use libc::STDOUT_FILENO;
+ghost use mathlib.Core.Path.{_≡_};
+ghost use lib.ListN.{length};
 ghost use Prim.Native.Nat.{_≤_, _<_};
 
 // What stands in a result before a call.
@@ -126,4 +128,47 @@ pub fn print_result(result: &[u32], rows: usize) {
     }
     print_number(sum(&result[..a]) as usize);
     print_number(kept(&result[a..]));
+}
+
+// A byte of a name: itself, or its two digits after %.
+pub fn print_letter(b: u8) {
+    match b {
+        b'%' | b',' | b'"' => {}
+        33..=126 => {
+            let one = [b];
+            print(&one);
+            return;
+        }
+        _ => {}
+    }
+    print(b"%");
+    io::print_hex(STDOUT_FILENO, b as u64, 2);
+}
+
+// Byte k of the name of a row.
+fn name_byte(row: &[u32], k: usize) -> u8
+    requires { ⌜ (length (now row) ≡ 20) × (k < 32) ⌝ }
+{
+    let word = row[2 + k / 4];
+    match k % 4 {
+        0 => (word / 16777216 % 256) as u8,
+        1 => (word / 65536 % 256) as u8,
+        2 => (word / 256 % 256) as u8,
+        _ => (word % 256) as u8,
+    }
+}
+
+// The bytes of a row's name, up to the zeros that end it.
+pub fn print_spelling(row: &[u32])
+    requires { ⌜ length (now row) ≡ 20 ⌝ }
+{
+    let mut k = 0;
+    while k < 32 {
+        let b = name_byte(row, k);
+        if b == 0 {
+            return;
+        }
+        print_letter(b);
+        k += 1;
+    }
 }

@@ -4,7 +4,6 @@
 //   +,   4,090 files in the root, with names of three letters A to P
 //   -,   the same with a to p
 //   .,   no row
-use libc::STDOUT_FILENO;
 use tree::Profile;
 ghost use mathlib.Core.Path.{_≡_};
 ghost use Prim.Native.Nat.{_≤_, _<_};
@@ -200,52 +199,9 @@ pub fn fill(line: &[u8], k: usize, table: &mut [u32]) -> usize
     words
 }
 
-// A byte of a name: itself, or its two digits after %.
-fn print_byte(b: u8) {
-    match b {
-        b'%' | b',' => {}
-        33..=126 => {
-            let one = [b];
-            show::print(&one);
-            return;
-        }
-        _ => {}
-    }
-    show::print(b"%");
-    io::print_hex(STDOUT_FILENO, b as u64, 2);
-}
-
-// Byte k of the name of a row.
-fn name_byte(row: &[u32], k: usize) -> u8
-    requires { ⌜ (length (now row) ≡ 20) × (k < 32) ⌝ }
-{
-    let word = row[2 + k / 4];
-    match k % 4 {
-        0 => (word / 16777216 % 256) as u8,
-        1 => (word / 65536 % 256) as u8,
-        2 => (word / 256 % 256) as u8,
-        _ => (word % 256) as u8,
-    }
-}
-
-// The bytes of a row's name, up to the zeros that end it.
-fn print_name(row: &[u32])
-    requires { ⌜ length (now row) ≡ 20 ⌝ }
-{
-    let mut k = 0;
-    while k < 32 {
-        let b = name_byte(row, k);
-        if b == 0 {
-            return;
-        }
-        print_byte(b);
-        k += 1;
-    }
-}
-
 // The byte of a number.
 fn print_digit(x: u32) {
-    print_byte((48 + x % 64) as u8)
+    show::print_letter((48 + x % 64) as u8)
 }
 
 // A row as the text that stands for it.
@@ -259,7 +215,7 @@ fn print_row(row: &[u32])
         show::print(b"f")
     }
     print_digit(row[11]);
-    print_name(row);
+    show::print_spelling(row);
     show::print(b",");
 }
 

@@ -10,49 +10,6 @@ use libc::STDIN_FILENO;
 use libc::STDOUT_FILENO;
 use tree::Profile;
 
-// A byte of a name: itself, or its two digits after %.
-fn print_byte(b: u8) {
-    match b {
-        b'%' | b'"' => {}
-        33..=126 => {
-            let one = [b];
-            show::print(&one);
-            return;
-        }
-        _ => {}
-    }
-    show::print(b"%");
-    io::print_hex(STDOUT_FILENO, b as u64, 2);
-}
-
-// Byte k of the name of a row.
-fn name_byte(row: &[u32], k: usize) -> u8
-    requires { ⌜ (length (now row) ≡ 20) × (k < 32) ⌝ }
-{
-    let word = row[2 + k / 4];
-    match k % 4 {
-        0 => (word / 16777216 % 256) as u8,
-        1 => (word / 65536 % 256) as u8,
-        2 => (word / 256 % 256) as u8,
-        _ => (word % 256) as u8,
-    }
-}
-
-// The bytes of a row's name, up to the zeros that end it.
-fn print_name(row: &[u32])
-    requires { ⌜ length (now row) ≡ 20 ⌝ }
-{
-    let mut k = 0;
-    while k < 32 {
-        let b = name_byte(row, k);
-        if b == 0 {
-            return;
-        }
-        print_byte(b);
-        k += 1;
-    }
-}
-
 // A word as a number.
 fn wide(x: u32) -> usize
     ensures { λ r. ⌜ r < 4294967296 ⌝ }
@@ -78,7 +35,7 @@ fn print_row(row: &[u32])
     show::print_number(wide(row[0]));
     show::print_number(wide(row[1]));
     show::print(b" \"");
-    print_name(row);
+    show::print_spelling(row);
     show::print(b"\"");
     if rules::all_zero(&row[10..]) {
         show::print(b"\n");

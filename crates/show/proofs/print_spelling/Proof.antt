@@ -1,10 +1,10 @@
--- `spelling::print_name` is safe: a name has at most 32 bytes.
+-- `show::print_spelling` is safe: a name has at most 32 bytes.
 use mathlib.Core.Path.{_≡_}
 use lib.ListN.{length}
 use Prim.Native.Nat.{_-_, _≤_}
 use borrow.Author.Needs.{needs}
-use Rattle.spelling.proofs.print_name.Statement.{statement}
-use Rattle.spelling.proofs.print_name.Tie as tie
+use Rattle.show.proofs.print_spelling.Statement.{statement}
+use Rattle.show.proofs.print_spelling.Tie as tie
 
 abbrev Inv-loop : tie.InvT-loop
 Inv-loop row k₀ k = (length row ≡ 20) × (k ≤ 32)
@@ -12,8 +12,8 @@ Inv-loop row k₀ k = (length row ≡ 20) × (k ≤ 32)
 abbrev μ-loop : tie.MeasureT-loop
 μ-loop row k₀ k = 32 - k
 
-pub print-name-spec : {M : Type 1} → statement M
-print-name-spec =
+pub print-spelling-spec : {M : Type 1} → statement M
+print-spelling-spec =
     tie.close
     (tie.spec
     Inv-loop
