@@ -48,7 +48,7 @@ fn decode(plan: &[u32], k: usize) -> Decision
 // Row i of a table; nothing where there is no such row.
 fn one_row(t: &[u32], i: u32) -> &[u32]
     requires { ⌜ length (now t) % 20 ≡ 0 ⌝ }
-    ensures { λ s. ⌜ now s ≡ rowAt (now (t .entry)) i ⌝ }
+    ensures { λ s. ⌜ (now s ≡ rowAt (now (t .entry)) i) × (length (now s) % 20 ≡ 0) ⌝ }
 {
     let j = row::wide(i);
     if j < t.len() / 20 {

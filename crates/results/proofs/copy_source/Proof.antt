@@ -27,12 +27,12 @@ copy-source-spec =
     (λ c κs. search needs)
     (λ c κs.
     let a = c .before .before .before in
-    rw (c .before .one-row .ensures) (rw (a .s4 .given .1) at (a .before .before .before .before .before .before .pre .1)))
+    rw (c .before .one-row .ensures .0) (rw (a .s4 .given .1) at (a .before .before .before .before .before .before .pre .1)))
     (λ c. search needs)
     (λ c κs. search needs)
     (λ c κs.
     let a = c .before .before .before in
-    rw (c .before .one-row2 .ensures) (rw (a .s5 .given .1) at (a .before .before .before .before .before .before .pre .1)))
+    rw (c .before .one-row2 .ensures .0) (rw (a .s5 .given .1) at (a .before .before .before .before .before .before .pre .1)))
     (λ c. search needs)
     (λ c.
     let a = c .before .before .before .before in
@@ -48,8 +48,8 @@ copy-source-spec =
     (λ c. search needs)
     (λ c.
     let a = c .before .before .before .before in
-    rw (a .before .before .s4 .given .1) (rw (a .one-row .ensures) at (copied (c .before .before .copy-words4 .ensures))))
+    rw (a .before .before .s4 .given .1) (rw (a .one-row .ensures .0) at (copied (c .before .before .copy-words4 .ensures))))
     (λ c. search needs)
     (λ c.
     let a = c .before .before .before .before in
-    rw (a .before .before .s5 .given .1) (rw (a .one-row2 .ensures) at (copied (c .before .before .copy-words5 .ensures)))))
+    rw (a .before .before .s5 .given .1) (rw (a .one-row2 .ensures .0) at (copied (c .before .before .copy-words5 .ensures)))))

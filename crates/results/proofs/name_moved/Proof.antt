@@ -1,5 +1,4 @@
 -- `name_moved` renames by the row of the tree that the new tree goes by.
-use Rattle.results.proofs.Pieces.{row-whole}
 use borrow.Author.Needs.{needs}
 use Rattle.results.proofs.name_moved.Statement.{statement}
 use Rattle.results.proofs.name_moved.Tie as tie
@@ -7,32 +6,32 @@ use Rattle.results.proofs.name_moved.Tie as tie
 rename-requires : tie.Need-rename-requires
 rename-requires c κs =
     let s = c .before .before .before .before .before .before .before in
-    (rw (c .before .one-row .ensures) (row-whole (s .args .l .now) (s .args .h .l) (s .pre .0)), s .pre .2, s .pre .3, s .pre .4)
+    (c .before .one-row .ensures .1, s .pre .2, s .pre .3, s .pre .4)
 
 rename-requires-2 : tie.Need-rename-requires-2
 rename-requires-2 c κs =
     let s = c .before .before .before .before .before .before .before in
-    (rw (c .before .one-row2 .ensures) (row-whole (s .args .l .now) (s .args .h .l) (s .pre .0)), s .pre .2, s .pre .3, s .pre .4)
+    (c .before .one-row2 .ensures .1, s .pre .2, s .pre .3, s .pre .4)
 
 rename-requires-3 : tie.Need-rename-requires-3
 rename-requires-3 c κs =
     let s = c .before .before .before .before .before .before .before in
-    (rw (c .before .one-row3 .ensures) (row-whole (s .args .r .now) (s .args .h .r) (s .pre .1)), s .pre .2, s .pre .3, s .pre .4)
+    (c .before .one-row3 .ensures .1, s .pre .2, s .pre .3, s .pre .4)
 
 returns : tie.Need-returns
 returns c =
     let o = c .before .before .before .before in
-    rw (o .before .enum-told .given .1) (rw (o .one-row .ensures) at (c .before .before .rename .ensures))
+    rw (o .before .enum-told .given .1) (rw (o .one-row .ensures .0) at (c .before .before .rename .ensures))
 
 returns-2 : tie.Need-returns-2
 returns-2 c =
     let o = c .before .before .before .before in
-    rw (o .before .enum-told2 .given .1) (rw (o .one-row2 .ensures) at (c .before .before .rename2 .ensures))
+    rw (o .before .enum-told2 .given .1) (rw (o .one-row2 .ensures .0) at (c .before .before .rename2 .ensures))
 
 returns-3 : tie.Need-returns-3
 returns-3 c =
     let o = c .before .before .before .before in
-    rw (o .before .enum-told3 .given .1) (rw (o .one-row3 .ensures) at (c .before .before .rename3 .ensures))
+    rw (o .before .enum-told3 .given .1) (rw (o .one-row3 .ensures .0) at (c .before .before .rename3 .ensures))
 
 pub name-moved-spec : {M : Type 1} → statement M
 name-moved-spec =

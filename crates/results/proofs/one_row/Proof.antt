@@ -1,17 +1,20 @@
 -- `one_row` is the words of the row.
-use mathlib.Core.Path.{sym}
+use mathlib.Core.Path.{refl, sym}
 use borrow.Author.Needs.{needs}
 use Rattle.row.proofs.Table.{row-part, row-none}
+use Rattle.results.proofs.Pieces.{row-whole}
 use Rattle.results.proofs.one_row.Statement.{statement}
 use Rattle.results.proofs.one_row.Tie as tie
 
 returns : tie.Need-returns
-returns c = rw (row-part, c .before .before .wide .ensures .0)
+returns c =
+    let s = c .before .before .before .before in
+    (rw (row-part, c .before .before .wide .ensures .0), rw (row-part, c .before .before .wide .ensures .0) (row-whole (s .args .t .now) (s .args .i) (s .pre)))
 
 returns-2 : tie.Need-returns-2
 returns-2 c =
     let s = c .before .before .before .before in
-    sym (row-none (s .args .t .now) (s .args .i) (s .pre) (search needs))
+    (sym (row-none (s .args .t .now) (s .args .i) (s .pre) (search needs)), refl)
 
 pub one-row-spec : {M : Type 1} → statement M
 one-row-spec =

@@ -22,5 +22,5 @@ source-len-spec =
     (λ c. rw (c .before .before .s .given .1) (ap length (c .part .ensures)))
     (λ c. rw (c .before .before .s2 .given .1) (ap length (c .part2 .ensures)))
     (λ c. rw (c .before .before .s3 .given .1) (ap length (c .part3 .ensures)))
-    (λ c. rw (c .before .before .s4 .given .1) (ap length (c .one-row .ensures)))
-    (λ c. rw (c .before .before .s5 .given .1) (ap length (c .one-row2 .ensures))))
+    (λ c. rw (c .before .before .s4 .given .1) (ap length (c .one-row .ensures .0)))
+    (λ c. rw (c .before .before .s5 .given .1) (ap length (c .one-row2 .ensures .0))))
