@@ -1,14 +1,14 @@
 -- The rows of a part of one table, spelled as the entries of a folder of another table are: an entry that the folder has too takes its
 -- name from there, at every depth.
 use mathlib.Core.Path.{_≡_}
-use mathlib.Core.List.{List, [], _∷_, _++_}
+use mathlib.Core.List.{List, [], _∷_}
 use Prim.Native.Nat.{ℕ, _+_, _*_, _-_, _≤_, _%_}
-use lib.ListN.{length, take, drop, getD, set, replicate}
+use lib.ListN.{length, getD, set, replicate}
 use Rattle.tree.specs.Name.{Name}
 use Rattle.tree.specs.declared.Profile.{Profile}
 use Rattle.tree.specs.declared.Profile.the-variants.{Exact, Folded}
 use Rattle.tree.specs.Key.{key}
-use Rattle.row.specs.Table.{Row, rowAt, rows, flat, depth, name}
+use Rattle.row.specs.Table.{Row, rowAt, rows, flat, depth, name, called}
 use Rattle.find.specs.declared.Found.{Found}
 use Rattle.find.specs.declared.Found.the-variants.{At, Nothing}
 use Rattle.find.specs.Entry.{child}
@@ -18,13 +18,9 @@ use Rattle.follow.specs.Follow.{onward}
 abbrev pub counterpart : List ℕ → Found → Name → Found
 counterpart v f n = onward f (λ (i : ℕ). child v i n)
 
--- row r, called n
-abbrev pub named : Name → Row → Row
-named n r = take 2 r ++ (n ++ drop 10 r)
-
 -- row r, called as the row of the table w that was found
 abbrev pub spelled : List ℕ → Found → Row → Row
-spelled w (At i) r = named (name (rowAt w i)) r
+spelled w (At i) r = called (name (rowAt w i)) r
 spelled w Nothing r = r
 
 -- rows one after the other, w the table and v its table of keys; opened has, at each depth, the counterpart of the last row there

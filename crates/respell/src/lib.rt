@@ -7,9 +7,9 @@ ghost use lib.ListN.{length};
 ghost use Rattle.tree.specs.declared.Profile.the-variants.{Folded};
 ghost use Rattle.tree.specs.Key.{key};
 ghost use Rattle.row.specs.Buffer.{written};
-ghost use Rattle.row.specs.Table.{rowAt, name};
+ghost use Rattle.row.specs.Table.{rowAt, name, called};
 ghost use Rattle.find.specs.Entry.{Finds, Inside};
-ghost use Rattle.respell.specs.Respell.{counterpart as counterpartOf, named, spelled, respelled, Fit};
+ghost use Rattle.respell.specs.Respell.{counterpart as counterpartOf, spelled, respelled, Fit};
 
 // The name of row i.
 fn name_of(t: &[u32], i: usize) -> [u32; 8]
@@ -43,7 +43,7 @@ fn counterpart(keys: &[u32], folder: Found, key: [u32; 8]) -> Found
 // One row with another name.
 fn put_named(src: &[u32], name: &[u32], result: &mut [u32], at: usize)
     requires { ⌜ (length (now src) ≡ 20) × (length (now name) ≡ 8) × (at + 20 ≤ length (now result)) ⌝ }
-    ensures { λ r. ⌜ now (result .exit) ≡ written (now (result .entry)) at (named (now (name .entry)) (now (src .entry))) ⌝ }
+    ensures { λ r. ⌜ now (result .exit) ≡ written (now (result .entry)) at (called (now (name .entry)) (now (src .entry))) ⌝ }
 {
     let from = row::copy_words(&src[..2], result, at);
     let to = row::copy_words(name, result, from);

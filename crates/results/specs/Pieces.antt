@@ -3,8 +3,7 @@
 -- tree as it is in the tree that the new one goes by, where that one has the entry.
 use mathlib.Core.List.{List, [], _∷_, _++_}
 use Prim.Native.Nat.{ℕ}
-use lib.ListN.{take, drop}
-use Rattle.row.specs.Table.{Row, rowAt, name}
+use Rattle.row.specs.Table.{Row, rowAt, name, called}
 use Rattle.find.specs.Subtree.{subtree}
 use Rattle.cursor.specs.declared.Rows.{Rows}
 use Rattle.cursor.specs.declared.Decision.{Decision}
@@ -40,7 +39,7 @@ taken t o l r d = sourceWords o l r (sourceOf d t)
 unfoldable pub named : Row → List ℕ → List ℕ
 named [] w = w
 named (x ∷ r) [] = []
-named (x ∷ r) (y ∷ w) = take 2 (y ∷ w) ++ (name (x ∷ r) ++ drop 10 (y ∷ w))
+named (x ∷ r) (y ∷ w) = called (name (x ∷ r)) (y ∷ w)
 
 -- the new left and the archive go by left's names, the new right by right's
 abbrev pub nameRow : Tree → List ℕ → List ℕ → Rows → Row

@@ -35,6 +35,10 @@ kind r = getD r 1 0
 abbrev pub name : Row → Name
 name r = take 8 (drop 2 r)
 
+-- the words of some rows, the first of them called n
+abbrev pub called : Name → List ℕ → List ℕ
+called n w = take 2 w ++ (n ++ drop 10 w)
+
 -- kind, size and digest
 abbrev pub content : Row → Content
 content r = kind r ∷ drop 10 r

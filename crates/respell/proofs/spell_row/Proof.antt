@@ -6,9 +6,9 @@ use lib.ListN.{length-take, length-drop}
 use Prim.Native.Nat.{ℕ}
 use borrow.Author.Needs.{needs}
 use Rattle.row.specs.Buffer.{written}
+use Rattle.row.specs.Table.{called}
 use Rattle.row.proofs.Table.{name-part}
 use Rattle.follow.proofs.Follow.{inside-at}
-use Rattle.respell.specs.Respell.{named}
 use Rattle.respell.proofs.spell_row.Statement.{statement}
 use Rattle.respell.proofs.spell_row.Tie as tie
 
@@ -38,7 +38,7 @@ returns c =
     let f = c .before .before .before .before .before .before in
     let a = f .before .before .before .before .before .args in
     rw (f .found .given .1)
-    (c .before .before .put-named .ensures ∙ ap (λ (n : List ℕ). written (a .result .now) (a .at) (named n (a .src .now))) (name-part (a .table .now) (f .found .given .0 .0)))
+    (c .before .before .put-named .ensures ∙ ap (λ (n : List ℕ). written (a .result .now) (a .at) (called n (a .src .now))) (name-part (a .table .now) (f .found .given .0 .0)))
 
 returns-2 : tie.Need-returns-2
 returns-2 c = rw (c .before .before .before .before .enum-told .given .1) (c .before .before .copy-words .ensures .1)
