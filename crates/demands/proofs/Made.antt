@@ -1,17 +1,12 @@
 -- Accepted calls of make_move, one after the other, leave the tables of the trees that the moves leave.
 use mathlib.Core.Path.{_≡_, ap, subst, _∙_}
 use mathlib.Core.List.{List, [], _∷_}
-use mathlib.Core.Bool.{true, _&&_}
 use native.Mathlib.Omega.{arith}
-use lib.Dec.{leb}
-use lib.ListN.{length, drop, length-take}
+use lib.ListN.{length, drop}
 use lib.Seq.{take-at}
 use Prim.Native.Nat.{ℕ, suc, _*_, _/_, _≤_}
-use borrow.Author.Tests.{leb-true}
-use Rattle.tree.specs.Name.{Name}
 use Rattle.tree.specs.Forest.{TreePath, Forest, size}
 use Rattle.tree.specs.declared.Profile.{Profile}
-use Rattle.tree.specs.Rules.{NameRule, AllNames}
 use Rattle.settle.specs.Decision.{Decision.agreed, Decision.leftGets, Decision.rightGets, Decision.clash}
 use Rattle.settle.specs.Results.{Line.line, Lines}
 use Rattle.settle.specs.Resume.{Sides}
@@ -19,28 +14,14 @@ use Rattle.settle.specs.Spelled.{movedIn, afterIn}
 use Rattle.row.specs.Buffer.{over}
 use Rattle.row.specs.Tree.{table}
 use Rattle.rules.specs.declared.Answer.the-variants.{Accepted}
-use Rattle.rules.specs.Refusal.{refusalOf, twinsDue}
-use Rattle.rules.specs.Keyed.{checkedIn, twins}
-use Rattle.moves.specs.Path.{Eights, pathOf, slots, pathRule}
-use Rattle.rules.specs.Faults.{unless, roomRule}
-use Rattle.moves.specs.Move.{parentRule, movedWords, moveDue}
-use Rattle.tree.proofs.Same.{and-true}
+use Rattle.moves.specs.Move.{movedWords, moveDue}
 use Rattle.settle.proofs.Spelled.{formed-moved}
 use Rattle.row.proofs.Tree.{length-table}
-use Rattle.rules.proofs.Faults.{first-passed, first-last, unless-true, room-parts}
-use Rattle.moves.proofs.Formed.{names-ruled}
+use Rattle.rules.proofs.Faults.{first-last, room-parts}
+use Rattle.moves.proofs.Due.{move-passed}
+use Rattle.moves.proofs.Formed.{path-ruled}
 use Rattle.demands.specs.Demand3.{Made, Tables, AllCarried}
 use Rattle.demands.proofs.Tab.{Tab, tab-tree}
-
--- a path that passed keeps the rules
-path-ruled : (names : List Name) (depth : ℕ) → Eights names → pathRule names depth ≡ true
-    → AllNames NameRule (pathOf names depth) × (length (pathOf names depth) ≤ 16)
-unfolding pathRule
-path-ruled names depth s h =
-    let a = and-true (leb 1 depth && leb depth 16) (slots depth names) h in
-    let b = and-true (leb 1 depth) (leb depth 16) (a .0) in
-    let c = leb-true depth 16 (b .1) in
-    (names-ruled depth names s (a .1), simp length-take (omega arith))
 
 -- what an accepted call leaves
 pub made-tab : (p : Profile) (q : TreePath) (target source result : List ℕ) (t s : Forest) → Made p q target source result → Tab p target t → Tab p source s
@@ -49,19 +30,13 @@ unfolding moveDue over
 made-tab p q target source result t s M T S =
     let w = movedWords p target source (M .names) (M .depth) in
     let last = Accepted (length w / 20) in
-    let a = first-passed (refusalOf (checkedIn p target) 2) _ last (M .accepted) in
-    let b = first-passed (refusalOf (checkedIn p source) 3) _ last (a .1) in
-    let x = first-passed (twinsDue (twins p target) 2) _ last (b .1) in
-    let y = first-passed (twinsDue (twins p source) 3) _ last (x .1) in
-    let c = first-passed (unless (pathRule (M .names) (M .depth)) 5 0) _ last (y .1) in
-    let d = first-passed (unless (parentRule p target (M .names) (M .depth)) 4 0) _ last (c .1) in
-    let e = first-passed (unless (roomRule (length w / 20) (length (M .room))) 3 2) [] last (d .1) in
-    let room = room-parts (length w / 20) (length (M .room)) (unless-true _ 3 2 (e .0)) in
-    let ruled = path-ruled (M .names) (M .depth) (M .slots) (unless-true _ 5 0 (c .0)) in
+    let answered : moveDue p target source (M .names) (M .depth) (M .room) ≡ last = first-last _ last (M .accepted) in
+    let P = move-passed p target source (M .names) (M .depth) (M .room) _ answered in
+    let room = room-parts (length w / 20) (length (M .room)) (P .room) in
+    let ruled = path-ruled (M .names) (M .depth) (M .slots) (P .path) in
     let formed = formed-moved p q s t (rw (M .path) at (ruled .0)) (rw (M .path) at (ruled .1)) (S .formed) (T .formed) in
     let words : w ≡ table (movedIn p q s t) = rw (tab-tree p source s S, tab-tree p target t T, M .path) in
     let size-is : length w ≡ 20 * suc (size (movedIn p q s t)) = ap length words ∙ length-table (movedIn p q s t) (formed .within) in
-    let answered : moveDue p target source (M .names) (M .depth) (M .room) ≡ last = first-last _ last (M .accepted) in
     let all : length w ≡ 20 * (length w / 20) = omega arith in
     record {
       is = M .table-left ∙ rw answered (take-at w (drop (length w) (M .room)) (20 * (length w / 20)) all) ∙ words;

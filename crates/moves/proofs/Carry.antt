@@ -109,19 +109,24 @@ exact-inputs Exact target source span names depth e T S l h a = record {
 exact-inputs Folded target source span names depth e T S l h a = never (cc)
 
 -- else they are made first
-pub first-turn : (p : Profile) (target source : List ℕ) (names keys : List Name) (depth : ℕ) → p ≡ Folded → Passes p target → Passes p source → 1 ≤ depth → depth ≤ 16
-    → keys ≡ map (key Folded) names → Turn 1 target target source keys depth
-first-turn Exact target source names keys depth e T S l h k = never (cc)
-first-turn Folded target source names keys depth e T S l h k = record {
-  target-passes = T;
-  source-passes = S;
-  keyed-target = λ z. absurd (omega arith);
-  named = rw k (keys-own Folded names);
-  low = l;
-  high = h;
+pub first-turn : (p : Profile) (target source : List ℕ) (names : List Name) (depth : ℕ) → p ≡ Folded → Passes p target → Passes p source → 1 ≤ depth → depth ≤ 16
+    → Turn 1 target target source names depth
+first-turn Exact target source names depth e T S l h = never (cc)
+first-turn Folded target source names depth e T S l h =
+    record { target-passes = T; source-passes = S; keyed-target = λ z. absurd (omega arith); named = λ z. absurd (omega arith); low = l; high = h }
+
+-- and then a path of keys leads where its names do
+pub last-turn : (target w keys source : List ℕ) (names path : List Name) (depth turns : ℕ) → path ≡ map (key Folded) names → keys ≡ keyed Folded target
+    → Turn turns target w source names depth → Turn 0 target keys source path depth
+last-turn target w keys source names path depth turns k v T = record {
+  target-passes = T .target-passes;
+  source-passes = T .source-passes;
+  keyed-target = λ z. v;
+  named = λ z. rw k (keys-own Folded names);
+  low = T .low;
+  high = T .high;
 }
 
-pub folded-carried : (p : Profile) (target source : List ℕ) (names keys : List Name) (depth : ℕ) (lent result : List ℕ) (answer : Answer) → p ≡ Folded → keys ≡ map (key Folded) names
-    → CarriedOut Folded target source keys depth lent result answer → CarriedOut p target source names depth lent result answer
-folded-carried Exact target source names keys depth lent result answer e k C = never (cc)
-folded-carried Folded target source names keys depth lent result answer e k C = carried-keys Folded target source names depth lent result answer (rw k at C)
+pub folded-carried : (target source : List ℕ) (names keys : List Name) (depth : ℕ) (lent result : List ℕ) (answer : Answer) → keys ≡ map (key Folded) names
+    → CarriedOut Folded target source keys depth lent result answer → CarriedOut Folded target source names depth lent result answer
+folded-carried target source names keys depth lent result answer k C = carried-keys Folded target source names depth lent result answer (rw k at C)

@@ -18,18 +18,24 @@ use Rattle.row.proofs.Tree.{length-table, tree-table}
 use Rattle.settle.proofs.Spelled.{formed-moved}
 use Rattle.rules.proofs.Faults.{room-parts}
 use Rattle.rules.proofs.Passed.{passed-formed, table-passes}
-use Rattle.moves.specs.Path.{Eights, pathOf, slots}
+use Rattle.moves.specs.Path.{Eights, pathOf, slots, pathRule}
 use Rattle.moves.specs.Move.{movedWords, moveDue}
 use Rattle.moves.proofs.Due.{path-depth, path-slots, Passed, move-passed}
 
 -- the names of a path whose slots are good
-pub names-ruled : (n : ℕ) (ms : List Name) → Eights ms → slots n ms ≡ true → AllNames NameRule (take n ms)
+names-ruled : (n : ℕ) (ms : List Name) → Eights ms → slots n ms ≡ true → AllNames NameRule (take n ms)
 unfolding Eights slots AllNames
 names-ruled zero ms h e = tt
 names-ruled (suc n) [] h e = tt
 names-ruled (suc n) (m ∷ ms) h e =
     let g = and-true (goodName m) (slots n ms) e in
     (record { eight = h .0; small = h .1; good = g .0 }, names-ruled n ms (h .2) (g .1))
+
+-- a path that passed keeps the rules
+pub path-ruled : (names : List Name) (depth : ℕ) → Eights names → pathRule names depth ≡ true → AllNames NameRule (pathOf names depth) × (length (pathOf names depth) ≤ 16)
+path-ruled names depth n8 h =
+    let d = path-depth names depth h in
+    (names-ruled depth names n8 (path-slots names depth h), omega (arith, length-take depth names))
 
 -- what an accepted move leaves: a table that passes again, of the moved tree, which is well formed in the profile
 pub record Leaves (p : Profile) (target source : List ℕ) (names : List Name) (depth : ℕ) : Type 0 where
@@ -41,9 +47,8 @@ pub leaves : (p : Profile) (target source : List ℕ) (names : List Name) (depth
     → moveDue p target source names depth lent ≡ Accepted a → Leaves p target source names depth
 leaves p target source names depth lent a t32 s32 n8 e =
     let P : Passed p target source names depth lent = move-passed p target source names depth lent a e in
-    let d = path-depth names depth (P .path) in
-    let l : length (pathOf names depth) ≤ 16 = omega (arith, length-take depth names) in
-    let W = formed-moved p (pathOf names depth) (treeOf source) (treeOf target) (names-ruled depth names n8 (path-slots names depth (P .path))) l (passed-formed p source (P .source-passes) s32) (passed-formed p target (P .target-passes) t32) in
+    let n = path-ruled names depth n8 (P .path) in
+    let W = formed-moved p (pathOf names depth) (treeOf source) (treeOf target) (n .0) (n .1) (passed-formed p source (P .source-passes) s32) (passed-formed p target (P .target-passes) t32) in
     let f = movedIn p (pathOf names depth) (treeOf source) (treeOf target) in
     let r = room-parts (length (table f) / 20) (length lent) (P .room) in
     record { formed = W; tree = tree-table f (W .within); passes = table-passes p f W (omega (arith, length-table f (W .within), r .0)) }

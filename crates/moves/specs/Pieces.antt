@@ -78,12 +78,12 @@ pub record Inputs (p : Profile) (target keys source : List ℕ) (span : Span) (n
   pub low : 1 ≤ depth
   pub high : depth ≤ 16
 
--- the same before the source is looked at, and, where there is another turn, before the target's keys are made
+-- the same before the source is looked at, and, where there is another turn, before the target's and the path's keys are made
 pub record Turn (turns : ℕ) (target keys source : List ℕ) (names : List Name) (depth : ℕ) : Type 0 where
   pub target-passes : Passes Folded target
   pub source-passes : Passes Folded source
   pub keyed-target : turns ≡ 0 → keys ≡ keyed Folded target
-  pub named : map (key Folded) names ≡ names
+  pub named : turns ≡ 0 → map (key Folded) names ≡ names
   pub low : 1 ≤ depth
   pub high : depth ≤ 16
 

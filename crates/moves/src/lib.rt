@@ -207,7 +207,15 @@ fn carry_folded(
     }
     row::key_table(target, &mut made);
     let n = target.len();
-    carry_folded(0, target, &made[..n], source, names, depth, result)
+    carry_folded(
+        0,
+        target,
+        &made[..n],
+        source,
+        paths::key_names(names),
+        depth,
+        result,
+    )
 }
 
 // A move whose tables and path are as they must be.
@@ -227,15 +235,7 @@ fn carry_out(
             let span = span_at(source, names, depth);
             carry_in(profile, target, target, source, span, names, depth, result)
         }
-        Profile::Folded => carry_folded(
-            1,
-            target,
-            target,
-            source,
-            paths::key_names(names),
-            depth,
-            result,
-        ),
+        Profile::Folded => carry_folded(1, target, target, source, names, depth, result),
     }
 }
 

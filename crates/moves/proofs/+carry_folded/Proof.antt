@@ -16,6 +16,8 @@ use Rattle.moves.proofs.carry_folded.Kinds as carry-folded-kinds
 use Rattle.moves.proofs.+carry_folded.Lts-carry_folded as carry-folded-lts
 use Rattle.moves.proofs.carry_in.Reads as carry-in-reads
 use Rattle.moves.proofs.span_at.Reads as span-at-reads
+use Rattle.moves.proofs.paths.key_names.Reads as key-names-reads
+use Rattle.moves.proofs.Carry.{last-turn, folded-carried}
 use Rattle.moves.proofs.+carry_folded.{statement}
 use Rattle.moves.proofs.+carry_folded.Tie.{close}
 
@@ -42,6 +44,8 @@ pub +carry-folded-spec : {M : Type 1} → statement M
   span-at-reads.Learnt,
   carry-in-reads.Asked,
   carry-in-reads.Learnt,
+  key-names-reads.Asked,
+  key-names-reads.Learnt,
   carry-folded-below t,
   carry-folded.Post,
 )
@@ -76,7 +80,7 @@ pub +carry-folded-spec : {M : Type 1} → statement M
       source-passes = T .source-passes;
       keyed-target = T .keyed-target (omega arith);
       spanned = rw k at (c .before .span-at .ensures);
-      named = T .named;
+      named = T .named (omega arith);
       low = T .low;
       high = T .high;
     })
@@ -95,13 +99,14 @@ pub +carry-folded-spec : {M : Type 1} → statement M
     let h : length (s .args .target .now) ≤ length (c .before .before .key-table2 .last .1 .0) =
     omega (arith, c .before .before .key-table2 .kept .1 .0, length-replicate {A = ℕ} 81920 0, passed-words Folded _ (s .pre .1 .target-passes)) in
     sym (length-take-le _ _ h))
+    (λ c κs. search needs)
     (λ c κs.
-    let s = c .before .before .before .before .before .before .before .before .before .before in
+    let s = c .before .before .before .before .before .before .before .before .before .before .before in
     let T = s .pre .1 in
     let w = s .args .target .now in
-    let k = ap (take (length w)) (c .before .before .before .key-table2 .ensures) ∙ keys-front Folded _ w (passed-whole Folded w (T .target-passes)) in (
-      omega (arith, s .pre .0),
-      record { target-passes = T .target-passes; source-passes = T .source-passes; keyed-target = λ z. k; named = T .named; low = T .low; high = T .high },
-    ))
+    let k = ap (take (length w)) (c .before .before .before .before .key-table2 .ensures) ∙ keys-front Folded _ w (passed-whole Folded w (T .target-passes)) in
+    (omega (arith, s .pre .0), last-turn w _ _ _ _ _ _ _ (c .before .key-names .ensures) k T))
     (λ c. search needs)
-    (λ c. search needs)
+    (λ c.
+    let s = c .before .before .before .before .before .before .before .before .before .before .before .before .before .before in
+    folded-carried (s .args .target .now) (s .args .source .now) (s .args .names) _ (s .args .depth) _ _ _ (c .before .before .before .before .key-names .ensures) (c .before .before .carry-folded .ensures))

@@ -1,7 +1,7 @@
 -- `moves::carry_out` meets its contract: profile by profile.
 use borrow.Author.Needs.{needs}
 use Rattle.rules.proofs.Passed.{passed-some}
-use Rattle.moves.proofs.Carry.{exact-inputs, first-turn, folded-carried}
+use Rattle.moves.proofs.Carry.{exact-inputs, first-turn}
 use Rattle.moves.proofs.carry_out.Statement.{statement}
 use Rattle.moves.proofs.carry_out.Tie as tie
 
@@ -16,15 +16,12 @@ carry-in-requires c κs =
 
 carry-folded-requires : tie.Need-carry-folded-requires
 carry-folded-requires c κs =
-    let s = c .before .before .before .before .before .before .before in
+    let s = c .before .before .before .before .before .before in
     let a = s .args in
-    first-turn (a .profile) (a .target .now) (a .source .now) (a .names) _ (a .depth) (c .before .before .enum-told2 .given .1) (s .pre .0) (s .pre .1) (s .pre .2) (s .pre .3) (c .before .key-names .ensures)
+    first-turn (a .profile) (a .target .now) (a .source .now) (a .names) (a .depth) (c .before .enum-told2 .given .1) (s .pre .0) (s .pre .1) (s .pre .2) (s .pre .3)
 
 returns-2 : tie.Need-returns-2
-returns-2 c =
-    let s = c .before .before .before .before .before .before .before .before .before .before in
-    let a = s .args in
-    folded-carried (a .profile) (a .target .now) (a .source .now) (a .names) _ (a .depth) (a .result .now) _ _ (c .before .before .before .before .before .enum-told2 .given .1) (c .before .before .before .before .key-names .ensures) (c .before .before .carry-folded .ensures)
+returns-2 c = rw (c .before .before .before .before .enum-told2 .given .1) (c .before .before .carry-folded .ensures)
 
 pub carry-out-spec : {M : Type 1} → statement M
 carry-out-spec =
@@ -34,7 +31,6 @@ carry-out-spec =
     span-at-requires
     carry-in-requires
     (λ c. search needs)
-    (λ c κs. search needs)
     carry-folded-requires
     (λ c. search needs)
     (λ c. search needs)
