@@ -4,7 +4,7 @@ use mathlib.Core.List.{List, [], _∷_}
 use native.Mathlib.Omega.{arith}
 use lib.ListN.{length, drop}
 use lib.Seq.{take-at}
-use Prim.Native.Nat.{ℕ, suc, _*_, _/_, _≤_}
+use Prim.Native.Nat.{ℕ, suc, _*_, _/_}
 use Rattle.tree.specs.Forest.{TreePath, Forest, size}
 use Rattle.tree.specs.declared.Profile.{Profile}
 use Rattle.settle.specs.Decision.{Decision.agreed, Decision.leftGets, Decision.rightGets, Decision.clash}

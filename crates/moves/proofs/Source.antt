@@ -13,7 +13,7 @@ use Rattle.tree.specs.Key.{fold, foldNode, entry, spelling, FormedIn}
 use Rattle.tree.proofs.Size.{rowCount}
 use Rattle.tree.proofs.Rules.{WithinNode, within-kids, within-add}
 use Rattle.tree.proofs.Folds.{formed-fold, present-fold, within-entry, reach, ownName, reach-fold, reach-absent}
-use Rattle.row.specs.Table.{rows, flat}
+use Rattle.row.specs.Table.{flat}
 use Rattle.row.specs.Tree.{rowsOf, nodeRows, rootName, table, treeOf}
 use Rattle.row.specs.Keyed.{keyed}
 use Rattle.row.proofs.Keyed.{table-keyed}

@@ -5,7 +5,7 @@ use native.Mathlib.Omega.{arith}
 use native.Mathlib.Numerals.{sub-one}
 use lib.ListN.{length, getD, set, replicate, length-replicate, getD-replicate, length-set}
 use lib.Seq.{getD-set-same, getD-set-other}
-use Prim.Native.Nat.{ℕ, zero, suc, _+_, _-_, _≤_}
+use Prim.Native.Nat.{ℕ, zero, suc, _+_, _≤_}
 use Rattle.tree.specs.Name.{Name}
 use Rattle.tree.specs.Forest.{Forest, Forest.end, Forest.leaf, Forest.dir, Node, Node.folder, kids}
 use Rattle.tree.specs.Rules.{NameRule, ContentRule, Within}
@@ -13,14 +13,14 @@ use Rattle.tree.specs.declared.Profile.{Profile}
 use Rattle.tree.specs.declared.Profile.the-variants.{Exact, Folded}
 use Rattle.tree.specs.Key.{key, entry, respell}
 use Rattle.tree.proofs.Folds.{respell-exact}
-use Rattle.row.specs.Table.{Row, rows, flat, depth, name}
+use Rattle.row.specs.Table.{Row, flat, depth, name}
 use Rattle.row.specs.Tree.{fileRow, folderRow, rowsOf}
 use Rattle.row.proofs.Flat.{rows-flat}
 use Rattle.find.specs.declared.Found.{Found}
 use Rattle.find.specs.declared.Found.the-variants.{At, Nothing}
 use Rattle.stands.proofs.Forest.{file-name, folder-name, wide-rowsOf, ruled-within}
 use Rattle.respell.specs.Respell.{counterpart, spelled, spelledRows, respelled, Shallow}
-use Rattle.respell.proofs.Node.{There, Opens, counter, called, spelled-file, spelled-folder}
+use Rattle.respell.proofs.Node.{There, Opens, counter, spelled-file, spelled-folder}
 
 -- a row of depth suc d called n
 module _ (p : Profile) (w v : List ℕ) (d : ℕ) (n : Name) (opened : List Found) where

@@ -3,7 +3,7 @@ use mathlib.Core.List.{List, [], _∷_, _++_}
 use mathlib.Core.Bool.{cond}
 use lib.Dec.{eqb}
 use lib.ListN.{drop, getD}
-use Prim.Native.Nat.{ℕ, zero, suc, compare}
+use Prim.Native.Nat.{ℕ, suc, compare}
 use Rattle.tree.specs.Name.{Name, byOrder}
 use Rattle.tree.specs.Forest.{Content, Forest, Forest.end, Forest.leaf, Forest.dir, Node, Node.absent, Node.file, Node.folder}
 use Rattle.row.specs.Table.{Row, rows, flat, depth, kind, name, content}

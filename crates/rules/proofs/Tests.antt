@@ -5,7 +5,7 @@ use mathlib.Core.Bool.{Bool, true, false, cond}
 use native.Mathlib.Omega.{arith}
 use lib.Dec.{ltb}
 use lib.ListN.{length}
-use Prim.Native.Nat.{ℕ, suc, _/_, _-_, _≤_}
+use Prim.Native.Nat.{ℕ, suc, _/_, _≤_}
 use borrow.Author.Tests.{ltb-false, le-ltb}
 use Rattle.tree.proofs.Never.{never}
 use Rattle.row.specs.Table.{Row, rows}

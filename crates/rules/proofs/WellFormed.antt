@@ -3,12 +3,11 @@
 use mathlib.Core.Path.{_≡_, sym}
 use mathlib.Core.Logic.{_↔_}
 use mathlib.Core.List.{List}
-use Prim.Native.Nat.{ℕ, suc, _-_, _≤_}
+use Prim.Native.Nat.{ℕ, suc, _≤_}
 use Rattle.tree.specs.Forest.{Forest, size}
 use Rattle.tree.specs.Rules.{Words32}
 use Rattle.tree.specs.declared.Profile.{Profile}
 use Rattle.tree.specs.Key.{FormedIn}
-use Rattle.row.specs.Table.{rows}
 use Rattle.row.specs.Tree.{table, treeOf}
 use Rattle.rules.specs.Keyed.{Passes}
 use Rattle.rules.proofs.Passed.{passed-formed, passed-most, passed-table, table-passes}

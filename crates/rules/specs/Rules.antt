@@ -5,7 +5,7 @@ use lib.Dec.{leb, eqb}
 use lib.ListN.{length, drop}
 use Prim.Native.Nat.{ℕ, zero, suc, _+_, _/_, _%_}
 use Rattle.tree.specs.Rules.{zeros}
-use Rattle.row.specs.Table.{Row, rowAt, rows, depth, kind}
+use Rattle.row.specs.Table.{Row, rowAt, depth, kind}
 
 -- the greatest depth that may follow row p: one more than its own where it is a folder's
 abbrev pub deepest : Row → ℕ

@@ -8,7 +8,7 @@ use tree::Profile;
 ghost use mathlib.Core.Path.{_≡_};
 ghost use mathlib.Core.List.{_∷_, []};
 ghost use Prim.Native.Nat.{_+_, _-_, _*_, _≤_, _<_};
-ghost use lib.ListN.{length, drop, getD};
+ghost use lib.ListN.{length};
 ghost use Rattle.tree.specs.Name.{cmp};
 ghost use Rattle.tree.specs.Key.{key};
 ghost use Rattle.row.specs.Order.{ordered};

@@ -3,7 +3,7 @@ use mathlib.Core.Path.{_≡_, refl, ap, _∙_}
 use mathlib.Core.List.{[], _∷_, _++_}
 use Prim.Native.Nat.{ℕ, suc, Ordering, Ordering·lt, Ordering·eq, Ordering·gt}
 use Rattle.tree.specs.Name.{Name, cmp, byOrder}
-use Rattle.tree.specs.Forest.{Content, TreePath, Forest, Forest.end, Forest.leaf, Forest.dir, Node, Node.absent, Node.file, Node.folder, Present, find, kids, at, add}
+use Rattle.tree.specs.Forest.{Content, TreePath, Forest, Forest.end, Forest.leaf, Forest.dir, Node, Node.absent, Node.file, Node.folder, Present, find, kids, add}
 use Rattle.tree.specs.Put.{update, put}
 use Rattle.tree.specs.Rules.{AllNames, Within}
 use Rattle.tree.specs.Key.{key, fold, foldNode, foldPath, entry, updateIn, putIn}

@@ -1,7 +1,6 @@
 -- `reconcile::tables_due` meets its contract: number 16 of the three counts where nothing is wrong with any of them.
 use mathlib.Core.Path.{refl}
 use borrow.Author.Needs.{needs}
-use Rattle.rules.specs.Keyed.{checkedIn}
 use Rattle.rules.specs.Faults.{firstRefusal}
 use Rattle.rules.proofs.Faults.{first-then}
 use Rattle.reconcile.specs.Run.{tablesDue}
