@@ -6,12 +6,12 @@ use Prim.Native.Nat.{ℕ}
 use Rattle.tree.specs.Rules.{Words32}
 use Rattle.tree.specs.declared.Profile.{Profile}
 use Rattle.settle.specs.Spelled.{newLeftIn, newRightIn, newArchiveIn}
-use Rattle.row.specs.Tree.{treeOf}
-use Rattle.rules.specs.Answer.{isAccepted}
-use Rattle.reconcile.specs.Run.{Lent, runDue, runOf}
+use Rattle.table_row.specs.Tree.{treeOf}
+use Rattle.table_rules.specs.Answer.{isAccepted}
+use Rattle.plan_run.specs.Run.{Lent, runDue, runOf}
 use Rattle.settle.proofs.Spelled.{settled-in}
-use Rattle.rules.proofs.Passed.{passed-formed}
-use Rattle.reconcile.proofs.Accepted.{passed}
+use Rattle.table_rules.proofs.Passed.{passed-formed}
+use Rattle.plan_run.proofs.Accepted.{passed}
 use Rattle.demands.specs.Demand2.{Demand2}
 
 pub demand-2 : (p : Profile) (o l r : List ℕ) (b : Lent) → Words32 o → Words32 l → Words32 r → isAccepted (runDue p o l r b) ≡ true → Demand2 p o l r b

@@ -12,14 +12,14 @@ use Rattle.tree.specs.Key.{fold}
 use Rattle.settle.specs.Spelled.{foldOutcome, foldLine}
 use Rattle.settle.specs.Results.{Line, Line.line, Lines, Outcome}
 use Rattle.settle.specs.Resume.{Sides, keepIf, keep, elsewhere, minus, isClash, withLines}
-use Rattle.row.specs.Buffer.{over}
-use Rattle.row.specs.Tree.{table, treeOf}
-use Rattle.rules.specs.Answer.{isAccepted}
+use Rattle.table_row.specs.Buffer.{over}
+use Rattle.table_row.specs.Tree.{table, treeOf}
+use Rattle.table_rules.specs.Answer.{isAccepted}
 use Rattle.plan.specs.Items.{listWords}
-use Rattle.reconcile.specs.Run.{given, Lent, runDue, runOf}
+use Rattle.plan_run.specs.Run.{given, Lent, runDue, runOf}
 use Rattle.tree.proofs.Folds.{size-fold}
 use Rattle.settle.proofs.Spelled.{resumesIn, finishesIn, closesIn, formed-left, formed-right, formed-archive}
-use Rattle.reconcile.proofs.Accepted.{Room, Passed, passed, accepted}
+use Rattle.plan_run.proofs.Accepted.{Room, Passed, passed, accepted}
 use Rattle.demands.specs.Demand3.{others, AsMuch, Reruns, Finishing, Closing}
 use Rattle.demands.proofs.Tab.{Tab, tab-tree, tab-passes, passes-tab, formed-tab}
 use Rattle.demands.proofs.Made.{carried-all}

@@ -9,9 +9,9 @@ use Rattle.tree.proofs.Folds.{fold-exact, path-exact}
 use Rattle.settle.specs.Results.{Line, Line.line, Lines}
 use Rattle.settle.specs.Spelled.{foldLine}
 use Rattle.settle.proofs.Spelled.{left-exact, right-exact, archive-exact}
-use Rattle.row.specs.Buffer.{over}
-use Rattle.row.specs.Tree.{table, treeOf}
-use Rattle.reconcile.specs.Run.{Lent}
+use Rattle.table_row.specs.Buffer.{over}
+use Rattle.table_row.specs.Tree.{table, treeOf}
+use Rattle.plan_run.specs.Run.{Lent}
 use Rattle.demands.specs.Demand2.{Demand2}
 use Rattle.demands.specs.Demand3.{Spells, Holds, Reruns, Finishing, Closing}
 use Rattle.demands.specs.Exact.{Demand2Exact, RerunsExact, FinishingExact, ClosingExact}

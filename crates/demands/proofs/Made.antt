@@ -11,15 +11,15 @@ use Rattle.settle.specs.Decision.{Decision.agreed, Decision.leftGets, Decision.
 use Rattle.settle.specs.Results.{Line.line, Lines}
 use Rattle.settle.specs.Resume.{Sides}
 use Rattle.settle.specs.Spelled.{movedIn, afterIn}
-use Rattle.row.specs.Buffer.{over}
-use Rattle.row.specs.Tree.{table}
-use Rattle.rules.specs.declared.Answer.the-variants.{Accepted}
-use Rattle.moves.specs.Move.{movedWords, moveDue}
+use Rattle.table_row.specs.Buffer.{over}
+use Rattle.table_row.specs.Tree.{table}
+use Rattle.table_rules.specs.declared.Answer.the-variants.{Accepted}
+use Rattle.table_moved.specs.Move.{movedWords, moveDue}
 use Rattle.settle.proofs.Spelled.{formed-moved}
-use Rattle.row.proofs.Tree.{length-table}
-use Rattle.rules.proofs.Faults.{first-last, room-parts}
-use Rattle.moves.proofs.Due.{move-passed}
-use Rattle.moves.proofs.Formed.{path-ruled}
+use Rattle.table_row.proofs.Tree.{length-table}
+use Rattle.table_rules.proofs.Faults.{first-last, room-parts}
+use Rattle.table_moved.proofs.Due.{move-passed}
+use Rattle.table_moved.proofs.Formed.{path-ruled}
 use Rattle.demands.specs.Demand3.{Made, Tables, AllCarried}
 use Rattle.demands.proofs.Tab.{Tab, tab-tree}
 

@@ -6,10 +6,10 @@ use Rattle.tree.specs.Forest.{Forest, size}
 use Rattle.tree.specs.Rules.{Words32}
 use Rattle.tree.specs.declared.Profile.{Profile}
 use Rattle.tree.specs.Key.{FormedIn}
-use Rattle.row.specs.Tree.{table, treeOf}
-use Rattle.rules.specs.Keyed.{Passes}
-use Rattle.row.proofs.Tree.{tree-table}
-use Rattle.rules.proofs.Passed.{passed-table, passed-formed, passed-most, table-passes}
+use Rattle.table_row.specs.Tree.{table, treeOf}
+use Rattle.table_rules.specs.Keyed.{Passes}
+use Rattle.table_row.proofs.Tree.{tree-table}
+use Rattle.table_rules.proofs.Passed.{passed-table, passed-formed, passed-most, table-passes}
 
 pub record Tab (p : Profile) (w : List ℕ) (f : Forest) : Type 0 where
   pub is : w ≡ table f

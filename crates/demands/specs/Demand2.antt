@@ -6,9 +6,9 @@ use Prim.Native.Nat.{ℕ}
 use Rattle.tree.specs.Forest.{Forest}
 use Rattle.tree.specs.declared.Profile.{Profile}
 use Rattle.settle.specs.Spelled.{SettledIn}
-use Rattle.row.specs.Buffer.{over}
-use Rattle.row.specs.Tree.{table, treeOf}
-use Rattle.reconcile.specs.Run.{Lent, runOf}
+use Rattle.table_row.specs.Buffer.{over}
+use Rattle.table_row.specs.Tree.{table, treeOf}
+use Rattle.plan_run.specs.Run.{Lent, runOf}
 
 pub record Demand2 (p : Profile) (o l r : List ℕ) (b : Lent) : Type 0 where
   -- the two new trees, and the new archive

@@ -14,13 +14,13 @@ use Rattle.settle.specs.Decision.{Decision.agreed, Decision.leftGets, Decision.
 use Rattle.settle.specs.Results.{Line, Line.line, Lines}
 use Rattle.settle.specs.Resume.{keep, isClash, minus, Chosen}
 use Rattle.settle.specs.Spelled.{foldLine}
-use Rattle.row.specs.Buffer.{over}
-use Rattle.row.specs.Tree.{table, treeOf}
-use Rattle.rules.specs.Answer.{placeOf, isAccepted}
-use Rattle.moves.specs.Path.{Eights, pathOf}
-use Rattle.moves.specs.Move.{moveOf}
+use Rattle.table_row.specs.Buffer.{over}
+use Rattle.table_row.specs.Tree.{table, treeOf}
+use Rattle.table_rules.specs.Answer.{placeOf, isAccepted}
+use Rattle.table_moved.specs.Path.{Eights, pathOf}
+use Rattle.table_moved.specs.Move.{moveOf}
 use Rattle.plan.specs.Items.{listWords}
-use Rattle.reconcile.specs.Run.{given, Lent, runDue, runOf}
+use Rattle.plan_run.specs.Run.{given, Lent, runDue, runOf}
 
 -- the words w are the table of a tree that is equal to f after folding
 pub record Spells (p : Profile) (f : Forest) (w : List ℕ) : Type 0 where

@@ -10,11 +10,11 @@ use Rattle.settle.specs.Results.{Lines, Outcome, outcome}
 use Rattle.settle.specs.Resume.{keep, isClash, minus, Chosen}
 use Rattle.settle.specs.Tr507.{Synchronization}
 use Rattle.settle.specs.Archive.{Remembers}
-use Rattle.row.specs.Buffer.{over}
-use Rattle.row.specs.Tree.{table, treeOf}
-use Rattle.rules.specs.Answer.{isAccepted}
+use Rattle.table_row.specs.Buffer.{over}
+use Rattle.table_row.specs.Tree.{table, treeOf}
+use Rattle.table_rules.specs.Answer.{isAccepted}
 use Rattle.plan.specs.Items.{listWords}
-use Rattle.reconcile.specs.Run.{Lent, runDue, runOf}
+use Rattle.plan_run.specs.Run.{Lent, runDue, runOf}
 use Rattle.demands.specs.Demand3.{Tables, AllCarried, AsMuch}
 
 -- what the three trees give, as they are named

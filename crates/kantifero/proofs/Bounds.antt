@@ -11,22 +11,22 @@ use Rattle.tree.specs.Name.{Name}
 use Rattle.tree.specs.declared.Profile.{Profile}
 use Rattle.tree.specs.declared.Profile.the-variants.{Exact, Folded}
 use Rattle.tree.proofs.Same.{and-true}
-use Rattle.row.specs.Table.{Row, rows}
-use Rattle.row.specs.Tree.{treeOf}
-use Rattle.rules.specs.declared.Answer.{Answer}
-use Rattle.rules.specs.declared.Answer.the-variants.{Accepted, Refused}
-use Rattle.rules.specs.declared.Checked.{Checked}
-use Rattle.rules.specs.declared.Checked.the-variants.{Fine, BadLength, BadRow}
-use Rattle.rules.specs.Answer.{placeOf, isAccepted}
-use Rattle.rules.specs.Refusal.{refusalOf, twinsDue}
-use Rattle.rules.specs.Rules.{sized}
-use Rattle.rules.specs.Keyed.{okRowIn, noTwin, leadBy, lowest, checkedIn, twins}
-use Rattle.rules.specs.Contract.{checkDue}
-use Rattle.rules.specs.Faults.{firstRefusal, unless, roomRule}
-use Rattle.rules.proofs.Faults.{refusal-fine, unless-true, room-parts}
-use Rattle.rules.proofs.Keyed.{passes-sized}
-use Rattle.moves.specs.Path.{pathRule}
-use Rattle.moves.specs.Move.{parentRule, movedWords, moveDue}
+use Rattle.table_row.specs.Table.{Row, rows}
+use Rattle.table_row.specs.Tree.{treeOf}
+use Rattle.table_rules.specs.declared.Answer.{Answer}
+use Rattle.table_rules.specs.declared.Answer.the-variants.{Accepted, Refused}
+use Rattle.table_rules.specs.declared.Checked.{Checked}
+use Rattle.table_rules.specs.declared.Checked.the-variants.{Fine, BadLength, BadRow}
+use Rattle.table_rules.specs.Answer.{placeOf, isAccepted}
+use Rattle.table_rules.specs.Refusal.{refusalOf, twinsDue}
+use Rattle.table_rules.specs.Rules.{sized}
+use Rattle.table_rules.specs.Keyed.{okRowIn, noTwin, leadBy, lowest, checkedIn, twins}
+use Rattle.table_rules.specs.Contract.{checkDue}
+use Rattle.table_rules.specs.Faults.{firstRefusal, unless, roomRule}
+use Rattle.table_rules.proofs.Faults.{refusal-fine, unless-true, room-parts}
+use Rattle.table_rules.proofs.Keyed.{passes-sized}
+use Rattle.table_moved.specs.Path.{pathRule}
+use Rattle.table_moved.specs.Move.{parentRule, movedWords, moveDue}
 use Rattle.listing.specs.Writing.{textOf}
 use Rattle.listing_write.specs.Contract.{fits, answerDue}
 

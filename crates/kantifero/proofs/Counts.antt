@@ -12,20 +12,20 @@ use Rattle.tree.specs.Forest.{Sorted}
 use Rattle.tree.specs.declared.Profile.{Profile}
 use Rattle.tree.specs.Key.{fold}
 use Rattle.tree.proofs.Folds.{size-fold}
-use Rattle.row.specs.Tree.{treeOf}
-use Rattle.rules.specs.declared.Answer.{Answer}
-use Rattle.rules.specs.declared.Answer.the-variants.{Accepted, Refused}
-use Rattle.rules.specs.Answer.{placeOf, isAccepted}
-use Rattle.rules.specs.Refusal.{refusalOf, twinsDue}
-use Rattle.rules.specs.Keyed.{checkedIn, twins, Passes}
-use Rattle.rules.specs.Faults.{unless, roomRule}
-use Rattle.rules.proofs.Small.{small-all}
-use Rattle.rules.proofs.Passed.{passed-formed, passed-most}
+use Rattle.table_row.specs.Tree.{treeOf}
+use Rattle.table_rules.specs.declared.Answer.{Answer}
+use Rattle.table_rules.specs.declared.Answer.the-variants.{Accepted, Refused}
+use Rattle.table_rules.specs.Answer.{placeOf, isAccepted}
+use Rattle.table_rules.specs.Refusal.{refusalOf, twinsDue}
+use Rattle.table_rules.specs.Keyed.{checkedIn, twins, Passes}
+use Rattle.table_rules.specs.Faults.{unless, roomRule}
+use Rattle.table_rules.proofs.Small.{small-all}
+use Rattle.table_rules.proofs.Passed.{passed-formed, passed-most}
 use Rattle.plan.proofs.Bound.{lines-bound}
-use Rattle.reconcile.specs.Answer.{answerWith}
-use Rattle.reconcile.specs.Run.{given, Lent, countsOf, twinsOf, tablesDue, roomsDue, runDue, runOf}
-use Rattle.reconcile.proofs.Accepted.{Passed, passed}
-use Rattle.kantifero.specs.Words.{Narrow}
+use Rattle.plan_run.specs.Answer.{answerWith}
+use Rattle.plan_run.specs.Run.{given, Lent, countsOf, twinsOf, tablesDue, roomsDue, runDue, runOf}
+use Rattle.plan_run.proofs.Accepted.{Passed, passed}
+use Rattle.kantifero_words.specs.Words.{Narrow}
 use Rattle.kantifero.proofs.Bounds.{refusal-place, twins-place, unless-place, first-place, last-place}
 
 module _ (p : Profile) (o l r : List ℕ) (b : Lent) where

@@ -4,9 +4,9 @@ use mathlib.Core.List.{List}
 use Prim.Native.Nat.{ℕ}
 use Rattle.tree.specs.Name.{Name}
 use Rattle.tree.specs.declared.Profile.{Profile}
-use Rattle.reconcile.specs.Run.{Lent}
+use Rattle.plan_run.specs.Run.{Lent}
 use Rattle.kantifero.specs.Calls.{ReconcileCall, MoveCall, WriteCall, ReadCall}
-use Rattle.kantifero.specs.Carried.{CarriedCall}
+use Rattle.kantifero_words.specs.Carried.{CarriedCall}
 
 pub reconcile-one : (p : Profile) (o l r : List ℕ) (before : Lent) (a b c d t w a′ b′ c′ d′ t′ w′ : List ℕ) → ReconcileCall p o l r before a b c d t w → ReconcileCall p o l r before a′ b′ c′ d′ t′ w′
     → (a ≡ a′) × (b ≡ b′) × (c ≡ c′) × (d ≡ d′) × (t ≡ t′) × (w ≡ w′)

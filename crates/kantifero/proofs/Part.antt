@@ -8,12 +8,12 @@ use lib.ListN.{length, take, drop, getD, length-take, length-drop}
 use Prim.Native.Nat.{ℕ, zero, suc, _*_, _-_, _≤_}
 use borrow.Author.Tests.{eqb-true, eqb-false}
 use Rattle.tree.specs.declared.Profile.{Profile}
-use Rattle.rules.specs.Keyed.{Passes}
-use Rattle.rules.proofs.Passed.{passed-words}
-use Rattle.find.specs.Subtree.{subtree, endOf}
-use Rattle.carry.specs.Carried.{passes, carriedRows}
-use Rattle.carry.proofs.Checks.{both-pass}
-use Rattle.kantifero.specs.Carried.{partWords, Within, tableOn}
+use Rattle.table_rules.specs.Keyed.{Passes}
+use Rattle.table_rules.proofs.Passed.{passed-words}
+use Rattle.table_find.specs.Subtree.{subtree, endOf}
+use Rattle.table_carry.specs.Carried.{passes, carriedRows}
+use Rattle.table_carry.proofs.Checks.{both-pass}
+use Rattle.kantifero_words.specs.Carried.{partWords, Within, tableOn}
 
 take-own : (k : ℕ) (w : List ℕ) → take (length (take k w)) w ≡ take k w
 take-own zero w = refl

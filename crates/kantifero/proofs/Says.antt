@@ -5,12 +5,12 @@ use native.Mathlib.Omega.{arith}
 use lib.ListN.{length}
 use Prim.Native.Nat.{ℕ}
 use Rattle.tree.specs.declared.Profile.{Profile}
-use Rattle.rules.specs.declared.Answer.{Answer}
-use Rattle.rules.specs.Answer.{Says}
-use Rattle.tally.specs.declared.Tally.{Tally}
-use Rattle.reconcile.specs.declared.Reconciled.{Reconciled}
-use Rattle.reconcile.specs.Run.{Lent, lent, ReconcileContract}
-use Rattle.kantifero.specs.Words.{eight, answerWords, reconciledWords, tallyWords, tallyIn}
+use Rattle.table_rules.specs.declared.Answer.{Answer}
+use Rattle.table_rules.specs.Answer.{Says}
+use Rattle.plan_tally.specs.declared.Tally.{Tally}
+use Rattle.plan_run.specs.declared.Reconciled.{Reconciled}
+use Rattle.plan_run.specs.Run.{Lent, lent, ReconcileContract}
+use Rattle.kantifero_words.specs.Words.{eight, answerWords, reconciledWords, tallyWords, tallyIn}
 use Rattle.kantifero.specs.Calls.{ReconcileCall}
 
 pub says-words : (a : Answer) (number side place : ℕ) → Says a number side place → answerWords a ≡ eight number side place

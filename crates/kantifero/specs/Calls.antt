@@ -6,16 +6,16 @@ use lib.ListN.{length}
 use Prim.Native.Nat.{ℕ}
 use Rattle.tree.specs.Name.{Name}
 use Rattle.tree.specs.declared.Profile.{Profile}
-use Rattle.row.specs.Buffer.{over}
-use Rattle.row.specs.Tree.{treeOf}
-use Rattle.rules.specs.Answer.{isAccepted}
-use Rattle.reconcile.specs.Run.{Lent, runOf}
-use Rattle.moves.specs.Move.{moveOf}
+use Rattle.table_row.specs.Buffer.{over}
+use Rattle.table_row.specs.Tree.{treeOf}
+use Rattle.table_rules.specs.Answer.{isAccepted}
+use Rattle.plan_run.specs.Run.{Lent, runOf}
+use Rattle.table_moved.specs.Move.{moveOf}
 use Rattle.listing.specs.Writing.{textOf}
 use Rattle.listing.specs.Reading.{answerOf, reading}
-use Rattle.listing_read.specs.Contract.{tableAfter}
+use Rattle.listing_read_lines.specs.Contract.{tableAfter}
 use Rattle.listing_write.specs.Contract.{answerDue}
-use Rattle.kantifero.specs.Words.{eight, answerWords, reconciledWords, tallyWords}
+use Rattle.kantifero_words.specs.Words.{eight, answerWords, reconciledWords, tallyWords}
 
 -- a reconciliation; before is what was lent, with the three words of the tally read as one
 pub record ReconcileCall (p : Profile) (o l r : List ℕ) (before : Lent) (archive left right list tally answer : List ℕ) : Type 0 where

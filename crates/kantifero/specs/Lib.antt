@@ -1,4 +1,2 @@
 -- The eight words of each exported call's answer, and what it leaves in the lent buffers.
-pub mod Words
 pub mod Calls
-pub mod Carried

@@ -7,15 +7,15 @@ use lib.ListN.{length}
 use Prim.Native.Nat.{ℕ, _≤_}
 use borrow.Author.Tests.{leb-true}
 use Rattle.tree.specs.declared.Profile.{Profile}
-use Rattle.row.specs.Buffer.{over}
-use Rattle.row.specs.Tree.{treeOf}
-use Rattle.rules.specs.declared.Answer.{Answer}
-use Rattle.rules.specs.declared.Answer.the-variants.{Accepted, Refused}
-use Rattle.rules.specs.Answer.{isAccepted}
-use Rattle.rules.specs.Faults.{firstRefusal}
-use Rattle.rules.specs.Contract.{checkDue, CheckContract}
-use Rattle.rules.proofs.Says.{Numbered, says-due, All, numbered-first, numbered-check}
-use Rattle.rules.proofs.Passing.{check-is}
+use Rattle.table_row.specs.Buffer.{over}
+use Rattle.table_row.specs.Tree.{treeOf}
+use Rattle.table_rules.specs.declared.Answer.{Answer}
+use Rattle.table_rules.specs.declared.Answer.the-variants.{Accepted, Refused}
+use Rattle.table_rules.specs.Answer.{isAccepted}
+use Rattle.table_rules.specs.Faults.{firstRefusal}
+use Rattle.table_rules.specs.Contract.{checkDue, CheckContract}
+use Rattle.table_rules.proofs.Says.{Numbered, says-due, All, numbered-first, numbered-check}
+use Rattle.table_rules.proofs.Passing.{check-is}
 use Rattle.listing.specs.Writing.{textOf}
 use Rattle.tree.proofs.Same.{and-true}
 use Rattle.listing_write.specs.Contract.{fits, textDue, answerDue, Written, WriteContract}

@@ -1,5 +1,3 @@
--- Laws of the writer. OneOutcome has that its contract fixes the answer and the text.
-pub mod Content
-pub mod Lines
+-- Due has the answer and the bytes that are due, OneOutcome that the contract fixes both.
 pub mod Due
 pub mod OneOutcome

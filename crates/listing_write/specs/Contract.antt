@@ -6,13 +6,13 @@ use lib.Dec.{leb}
 use lib.ListN.{length}
 use Prim.Native.Nat.{ℕ}
 use Rattle.tree.specs.declared.Profile.{Profile}
-use Rattle.row.specs.Buffer.{over}
-use Rattle.row.specs.Tree.{treeOf}
-use Rattle.rules.specs.declared.Answer.{Answer}
-use Rattle.rules.specs.declared.Answer.the-variants.{Accepted, Refused}
-use Rattle.rules.specs.Answer.{numberOf, sideOf, placeOf, isAccepted, Says}
-use Rattle.rules.specs.Faults.{firstRefusal}
-use Rattle.rules.specs.Contract.{checkDue}
+use Rattle.table_row.specs.Buffer.{over}
+use Rattle.table_row.specs.Tree.{treeOf}
+use Rattle.table_rules.specs.declared.Answer.{Answer}
+use Rattle.table_rules.specs.declared.Answer.the-variants.{Accepted, Refused}
+use Rattle.table_rules.specs.Answer.{numberOf, sideOf, placeOf, isAccepted, Says}
+use Rattle.table_rules.specs.Faults.{firstRefusal}
+use Rattle.table_rules.specs.Contract.{checkDue}
 use Rattle.listing.specs.Writing.{textOf}
 
 -- at most 65,536 bytes, and no more than are lent

@@ -1,3 +1,2 @@
--- What writing a table promises, and its text row by row.
-pub mod Rows
+-- What writing a table promises.
 pub mod Contract

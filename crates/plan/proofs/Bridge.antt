@@ -12,15 +12,15 @@ use Rattle.tree.specs.Forest.{Forest, Forest.end, kids, size, Sorted}
 use Rattle.tree.specs.Same.{sameNode}
 use Rattle.settle.specs.Decision.{rule, decide}
 use Rattle.settle.specs.Plan.{settle}
-use Rattle.stands.specs.Stands.{Ruled}
-use Rattle.cursor.specs.Cursor.{none, orderAt, turned, least, decision}
-use Rattle.cursor.specs.declared.Rows.{Rows}
-use Rattle.cursor.specs.declared.Decision.the-variants.{Agreed, LeftGets, RightGets, Clash}
+use Rattle.table_stands.specs.Stands.{Ruled}
+use Rattle.plan_cursor.specs.Cursor.{none, orderAt, turned, least, decision}
+use Rattle.plan_cursor.specs.declared.Rows.{Rows}
+use Rattle.plan_cursor.specs.declared.Decision.the-variants.{Agreed, LeftGets, RightGets, Clash}
 use Rattle.tree.proofs.Never.{never}
 use Rattle.tree.proofs.Size.{rowCount}
 use Rattle.settle.proofs.Names.{present}
 use Rattle.settle.proofs.Merge.{first, skip, sorted-skip, plan-end}
-use Rattle.stands.proofs.Same.{same-subtrees}
+use Rattle.table_stands.proofs.Same.{same-subtrees}
 use Rattle.plan.specs.Items.{kind, items, orNone, wordsOf}
 use Rattle.plan.specs.Settle.{Three, four, decisionWords, ended, past, merge, enough, flatten, firsts, both, entry}
 use Rattle.plan.proofs.Runs.{Runs, written, past as pastRuns, inside, Ready, entryWords, ownWords, written-step, words-single, words-pair}

@@ -9,13 +9,13 @@ use borrow.Author.Tests.{lt-ltb, le-ltb, eq-eqb, ne-eqb}
 use Rattle.tree.specs.Name.{Name}
 use Rattle.tree.specs.Forest.{Forest, Forest.end, Forest.leaf, Forest.dir, Node, Node.absent, Node.file, Node.folder, add, size, Present}
 use Rattle.tree.proofs.Size.{rowCount}
-use Rattle.row.specs.Table.{Row, rows, depth}
-use Rattle.row.specs.Tree.{fileRow, folderRow, rowsOf, nodeRows}
-use Rattle.row.proofs.Tree.{rows-add}
-use Rattle.stands.specs.Stands.{Ended, Stands}
-use Rattle.cursor.specs.Cursor.{none, seek, from, behind}
-use Rattle.stands.proofs.Rows.{head}
-use Rattle.stands.proofs.Forest.{length-nodeRows, ended-up, ended-rows}
+use Rattle.table_row.specs.Table.{Row, rows, depth}
+use Rattle.table_row.specs.Tree.{fileRow, folderRow, rowsOf, nodeRows}
+use Rattle.table_row.proofs.Tree.{rows-add}
+use Rattle.table_stands.specs.Stands.{Ended, Stands}
+use Rattle.plan_cursor.specs.Cursor.{none, seek, from, behind}
+use Rattle.table_stands.proofs.Rows.{head}
+use Rattle.table_stands.proofs.Forest.{length-nodeRows, ended-up, ended-rows}
 
 -- the rows from row b on are those of the siblings f, beneath a folder of depth e
 pub record Siblings (w : List ℕ) (e : ℕ) (f : Forest) (b : ℕ) : Type 0 where

@@ -12,10 +12,10 @@ use Rattle.tree.specs.Forest.{Forest, Forest.end, Forest.leaf, Forest.dir, Node
 use Rattle.tree.specs.Rules.{NameRule, ContentRule, Within}
 use Rattle.settle.specs.Names.{names}
 use Rattle.settle.specs.Plan.{Entry.single, Entry.pair, plan, settle}
-use Rattle.row.specs.Tree.{rowsOf, nodeRows}
-use Rattle.row.proofs.Tree.{length-rows}
-use Rattle.stands.specs.Stands.{StandsOr, Ruled, RuledNode}
-use Rattle.cursor.specs.Cursor.{isRow}
+use Rattle.table_row.specs.Tree.{rowsOf, nodeRows}
+use Rattle.table_row.proofs.Tree.{length-rows}
+use Rattle.table_stands.specs.Stands.{StandsOr, Ruled, RuledNode}
+use Rattle.plan_cursor.specs.Cursor.{isRow}
 use Rattle.tree.proofs.Never.{never}
 use Rattle.tree.proofs.Order.{cmp-refl}
 use Rattle.tree.proofs.Forest.{siblings-ind, sorted-kids, sorted-parts}
@@ -23,7 +23,7 @@ use Rattle.tree.proofs.Rules.{within-parts, within-kids}
 use Rattle.tree.proofs.Size.{size-add, rowCount}
 use Rattle.settle.proofs.Names.{has, has-names, present}
 use Rattle.settle.proofs.Merge.{first, skip, first-add, skip-add, find-first}
-use Rattle.stands.proofs.Rows.{head, length-rows-from}
+use Rattle.table_stands.proofs.Rows.{head, length-rows-from}
 use Rattle.plan.proofs.Head.{Run}
 use Rattle.plan.proofs.Least.{Key, Key.named, Key.last, key, UpTo, LeastOf, least-key}
 use Rattle.plan.proofs.OneTable.{isFold}

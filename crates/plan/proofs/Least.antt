@@ -9,17 +9,17 @@ use Prim.Native.Nat.{ℕ, suc, _/_, _≤_, Ordering, Ordering·lt, Ordering·eq,
 use borrow.Author.Tests.{lt-ltb, le-ltb}
 use Rattle.tree.specs.Name.{Name, cmp, byOrder, ifSame}
 use Rattle.tree.specs.Forest.{Forest, Forest.end, Forest.leaf, Forest.dir, Node, Node.absent, Node.file, Node.folder, Present}
-use Rattle.row.specs.Table.{rowAt, name}
-use Rattle.row.specs.Tree.{fileRow, folderRow, rowsOf}
-use Rattle.row.specs.Order.{ordered}
-use Rattle.row.specs.declared.Order.{Order}
-use Rattle.stands.specs.Stands.{Ruled}
-use Rattle.cursor.specs.Cursor.{none, isRow, orderAt, turned, notAfter, keep}
+use Rattle.table_row.specs.Table.{rowAt, name}
+use Rattle.table_row.specs.Tree.{fileRow, folderRow, rowsOf}
+use Rattle.table_row.specs.Order.{ordered}
+use Rattle.table_row.specs.declared.Order.{Order}
+use Rattle.table_stands.specs.Stands.{Ruled}
+use Rattle.plan_cursor.specs.Cursor.{none, isRow, orderAt, turned, notAfter, keep}
 use Rattle.tree.proofs.Never.{never}
 use Rattle.tree.proofs.Order.{flip, cmp-refl, cmp-eq, cmp-flip, cmp-trans}
 use Rattle.settle.proofs.Merge.{first, Least}
-use Rattle.stands.proofs.Rows.{head}
-use Rattle.stands.proofs.Forest.{file-name, folder-name}
+use Rattle.table_stands.proofs.Rows.{head}
+use Rattle.table_stands.proofs.Forest.{file-name, folder-name}
 use Rattle.plan.specs.Items.{orNone}
 use Rattle.plan.proofs.Head.{Run, headRow}
 

@@ -10,15 +10,15 @@ use Prim.Native.Nat.{ℕ, suc, _+_, _/_, _≤_, Ordering, Ordering·lt, Ordering
 use borrow.Author.Tests.{lt-ltb, le-ltb}
 use Rattle.tree.specs.Name.{Name, cmp}
 use Rattle.tree.specs.Forest.{Forest, Forest.end, Forest.leaf, Forest.dir, Node, Node.absent, Node.file, Node.folder, kids, add, size, Present}
-use Rattle.row.specs.Table.{kind}
-use Rattle.row.specs.Tree.{fileRow, folderRow, rowsOf, nodeRows}
-use Rattle.stands.specs.Stands.{Stands, StandsOr, Ruled, RuledNode}
-use Rattle.cursor.specs.Cursor.{none, isRow, seek, from, behind, isFolder}
+use Rattle.table_row.specs.Table.{kind}
+use Rattle.table_row.specs.Tree.{fileRow, folderRow, rowsOf, nodeRows}
+use Rattle.table_stands.specs.Stands.{Stands, StandsOr, Ruled, RuledNode}
+use Rattle.plan_cursor.specs.Cursor.{none, isRow, seek, from, behind, isFolder}
 use Rattle.tree.proofs.Order.{cmp-eq}
 use Rattle.tree.proofs.Size.{size-add, rowCount}
 use Rattle.settle.proofs.Merge.{first, skip, first-add, skip-add}
-use Rattle.row.proofs.Table.{rows-nil}
-use Rattle.stands.proofs.Rows.{head}
+use Rattle.table_row.proofs.Table.{rows-nil}
+use Rattle.table_stands.proofs.Rows.{head}
 use Rattle.plan.specs.Items.{orNone}
 use Rattle.plan.proofs.Least.{or-present}
 use Rattle.plan.proofs.Head.{Siblings, Run, run, headRow, headRow-add, head-stands, siblings-next, from-run, behind-head}

@@ -10,8 +10,8 @@ use Rattle.settle.specs.Decision.{Decision.agreed, decide}
 use Rattle.settle.specs.Names.{Names, names}
 use Rattle.settle.specs.Plan.{Plan, Entry, Entry.single, Entry.pair, addItem, planOver, settleIn, plan, settle}
 use Rattle.settle.specs.Results.{Line, Line.line, Lines, under}
-use Rattle.stands.specs.Around.{before, rowIn}
-use Rattle.stands.proofs.Around.{before-add}
+use Rattle.table_stands.specs.Around.{before, rowIn}
+use Rattle.table_stands.proofs.Around.{before-add}
 use Rattle.tree.proofs.Never.{never}
 use Rattle.tree.proofs.Order.{flip, cmp-eq, cmp-flip}
 use Rattle.tree.proofs.Forest.{siblings-ind}

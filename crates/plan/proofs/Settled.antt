@@ -8,10 +8,10 @@ use Rattle.tree.specs.Forest.{TreePath, Forest, Node.folder, find, at, size}
 use Rattle.tree.specs.Rules.{WellFormed}
 use Rattle.settle.specs.Plan.{plan}
 use Rattle.settle.specs.Results.{Line.line, Lines}
-use Rattle.row.specs.Table.{rows}
-use Rattle.row.specs.Tree.{rootName, rowsOf, nodeRows}
-use Rattle.stands.specs.Around.{before, rowIn}
-use Rattle.stands.proofs.Forest.{ruled-within}
+use Rattle.table_row.specs.Table.{rows}
+use Rattle.table_row.specs.Tree.{rootName, rowsOf, nodeRows}
+use Rattle.table_stands.specs.Around.{before, rowIn}
+use Rattle.table_stands.proofs.Forest.{ruled-within}
 use Rattle.plan.specs.Items.{items, orNone, rowOf, wordsOf, itemWords, planWords}
 use Rattle.plan.specs.Settle.{Three, enough, settled}
 use Rattle.plan.proofs.Runs.{rowFrom, Runs, runWords}

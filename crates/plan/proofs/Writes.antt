@@ -6,8 +6,8 @@ use native.Mathlib.Nat.{add-assoc, add-zero, zero-add}
 use lib.ListN.{length, take, drop, length-append}
 use lib.Seq.{take-at, drop-append-add, drop-drop, length-take-le}
 use Prim.Native.Nat.{ℕ, _+_, _≤_}
-use Rattle.row.specs.Buffer.{written, over}
-use Rattle.row.proofs.Buffer.{written-nil}
+use Rattle.table_row.specs.Buffer.{written, over}
+use Rattle.table_row.proofs.Buffer.{written-nil}
 use Rattle.plan.specs.Writes.{Writes, Fills}
 
 -- one run of words after another

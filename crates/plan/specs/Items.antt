@@ -5,7 +5,7 @@ use Rattle.tree.specs.Forest.{TreePath, Forest, Node, Node.absent, Node.file, N
 use Rattle.settle.specs.Decision.{Decision, Decision.agreed, Decision.leftGets, Decision.rightGets, Decision.clash, decide}
 use Rattle.settle.specs.Plan.{Plan, Plan.done, Plan.item, Plan.both, plan}
 use Rattle.settle.specs.Results.{Line, Line.line, Lines, under}
-use Rattle.stands.specs.Around.{rowIn}
+use Rattle.table_stands.specs.Around.{rowIn}
 
 -- as plan and list number the decisions
 unfoldable pub kind : Decision → ℕ

@@ -5,10 +5,10 @@ use mathlib.Core.List.{List, [], _∷_, _++_}
 use mathlib.Core.Bool.{Bool, true, false, cond}
 use lib.ListN.{length}
 use Prim.Native.Nat.{ℕ, zero, suc, _+_, _/_, _%_, _≤_}
-use Rattle.cursor.specs.Cursor.{isRow, from, least, behind, isFolder, decision}
-use Rattle.cursor.specs.declared.Rows.{Rows}
-use Rattle.cursor.specs.declared.Decision.{Decision}
-use Rattle.cursor.specs.declared.Decision.the-variants.{Agreed, LeftGets, RightGets, Clash}
+use Rattle.plan_cursor.specs.Cursor.{isRow, from, least, behind, isFolder, decision}
+use Rattle.plan_cursor.specs.declared.Rows.{Rows}
+use Rattle.plan_cursor.specs.declared.Decision.{Decision}
+use Rattle.plan_cursor.specs.declared.Decision.the-variants.{Agreed, LeftGets, RightGets, Clash}
 
 -- three tables of whole rows, 4,096 at most
 pub record Three (o l r : List ℕ) : Type 0 where

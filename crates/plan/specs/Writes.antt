@@ -3,7 +3,7 @@ use mathlib.Core.Path.{_≡_}
 use mathlib.Core.List.{List}
 use lib.ListN.{length}
 use Prim.Native.Nat.{ℕ, _+_}
-use Rattle.row.specs.Buffer.{written, over}
+use Rattle.table_row.specs.Buffer.{written, over}
 
 -- the words s at place at of d, which is e then; q is the place behind them
 pub record Writes (d : List ℕ) (at : ℕ) (s e : List ℕ) (q : ℕ) : Type 0 where

@@ -9,7 +9,7 @@ use Rattle.settle.specs.Names.{insert, into, names}
 use Rattle.settle.specs.Plan.{planOver, settleIn, plan}
 use Rattle.settle.specs.Results.{list}
 use Rattle.plan.specs.Items.{kind}
-use Rattle.tally.specs.Count.{tallyOf}
+use Rattle.plan_tally.specs.Count.{tallyOf}
 use Rattle.listing.specs.Writing.{asItIs, spellByte, spell, decimal}
 use Rattle.plan_text.specs.Text.{mark, marked, namesText, pathText, linesText, countsText, planText}
 use Rattle.plan_text.specs.Cases.{PrintedAsDocumented}

@@ -7,7 +7,7 @@ use Rattle.tree.specs.Key.{fold, entry}
 use Rattle.tree.proofs.Folds.{spelling-exact}
 use Rattle.settle.specs.Results.{Line, Line.line, Lines, Outcome, outcome}
 use Rattle.settle.proofs.Spelled.{outcome-exact}
-use Rattle.route.specs.Route.{spelledIn}
+use Rattle.table_route.specs.Route.{spelledIn}
 use Rattle.plan_text.specs.Text.{planText}
 use Rattle.plan_text.specs.Spelled.{spelledBy, spelledLine, runText}
 

@@ -16,13 +16,13 @@ use Rattle.tree.proofs.Rules.{length-bytes, WithinNode}
 use Rattle.tree.proofs.Folds.{within-entry, reach, reach-absent, size-fold}
 use Rattle.settle.specs.Results.{Line.line, Lines}
 use Rattle.settle.specs.Spelled.{outcomeIn}
-use Rattle.stands.proofs.Forest.{ruled-within}
-use Rattle.route.specs.Route.{spelledIn}
-use Rattle.route.proofs.Path.{present-reach, reach-above, ruled-entry}
+use Rattle.table_stands.proofs.Forest.{ruled-within}
+use Rattle.table_route.specs.Route.{spelledIn}
+use Rattle.table_route.proofs.Path.{present-reach, reach-above, ruled-entry}
 use Rattle.plan.specs.Items.{kind}
 use Rattle.plan.proofs.Bound.{lines-bound}
-use Rattle.tally.specs.declared.Tally.{Tally}
-use Rattle.tally.specs.Count.{tallyOf}
+use Rattle.plan_tally.specs.declared.Tally.{Tally}
+use Rattle.plan_tally.specs.Count.{tallyOf}
 use Rattle.listing.specs.Bytes.{text}
 use Rattle.listing.specs.Writing.{asItIs, spellByte, spell, nameText}
 use Rattle.listing.proofs.Digits.{decimal-length}

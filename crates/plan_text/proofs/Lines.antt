@@ -10,19 +10,19 @@ use Rattle.tree.specs.Forest.{TreePath, Forest, Node, Node.absent, Node.file, N
 use Rattle.tree.specs.Rules.{Words32}
 use Rattle.tree.specs.declared.Profile.{Profile}
 use Rattle.tree.specs.Key.{fold}
-use Rattle.row.specs.Buffer.{over}
-use Rattle.row.specs.Tree.{treeOf}
-use Rattle.rules.specs.Keyed.{Passes}
-use Rattle.rules.proofs.Passed.{passed-words, passed-table, passed-formed}
+use Rattle.table_row.specs.Buffer.{over}
+use Rattle.table_row.specs.Tree.{treeOf}
+use Rattle.table_rules.specs.Keyed.{Passes}
+use Rattle.table_rules.proofs.Passed.{passed-words, passed-table, passed-formed}
 use Rattle.settle.specs.Decision.{Decision.agreed, Decision.leftGets, Decision.rightGets, Decision.clash}
 use Rattle.settle.specs.Results.{Line.line, Lines}
 use Rattle.settle.specs.Spelled.{outcomeIn}
-use Rattle.stands.specs.Around.{rowIn}
+use Rattle.table_stands.specs.Around.{rowIn}
 use Rattle.plan.specs.Items.{rowOf, wordsOf, listWords}
 use Rattle.plan.proofs.Least.{or-present}
-use Rattle.tally.specs.Count.{tallyOf}
-use Rattle.route.specs.Route.{pathOf, spelledIn}
-use Rattle.route.proofs.Path.{row-is, path-of}
+use Rattle.plan_tally.specs.Count.{tallyOf}
+use Rattle.table_route.specs.Route.{pathOf, spelledIn}
+use Rattle.table_route.proofs.Path.{row-is, path-of}
 use Rattle.plan_text.specs.Text.{pathText, linesText, planText}
 use Rattle.plan_text.specs.Words.{sideText, entryText, entriesText, planBytes}
 use Rattle.plan_text.specs.Sides.{Sided}

@@ -4,11 +4,11 @@ use mathlib.Core.List.{List, [], _∷_, _++_, append-assoc, append-nil}
 use Prim.Native.Nat.{ℕ}
 use Rattle.tree.specs.Name.{Name}
 use Rattle.tree.specs.Forest.{TreePath}
-use Rattle.row.specs.Table.{rowAt, name}
+use Rattle.table_row.specs.Table.{rowAt, name}
 use Rattle.listing.specs.Bytes.{text}
 use Rattle.listing.specs.Writing.{nameText}
-use Rattle.route.specs.Route.{folderOf, pathOf}
-use Rattle.route.proofs.Above.{path-root, path-on}
+use Rattle.table_route.specs.Route.{folderOf, pathOf}
+use Rattle.table_route.proofs.Above.{path-root, path-on}
 use Rattle.plan_text.specs.Text.{namesText, pathText}
 
 -- texts with a slash between each two

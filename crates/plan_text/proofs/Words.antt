@@ -7,7 +7,7 @@ use lib.ListN.{length, drop, getD}
 use lib.Seq.{getD-drop, drop-drop}
 use Prim.Native.Nat.{ℕ, suc, _+_, _*_, _-_, _/_, _≤_, _<_}
 use borrow.Author.Tests.{lt-ltb, le-ltb}
-use Rattle.route.specs.Route.{pathOf}
+use Rattle.table_route.specs.Route.{pathOf}
 use Rattle.plan_text.specs.Text.{marked, pathText}
 use Rattle.plan_text.specs.Words.{sideText, entryText, entriesText}
 

@@ -7,7 +7,7 @@ use Rattle.tree.specs.declared.Profile.{Profile}
 use Rattle.tree.specs.Key.{fold}
 use Rattle.settle.specs.Results.{Line, Line.line}
 use Rattle.settle.specs.Spelled.{outcomeIn}
-use Rattle.route.specs.Route.{spelledIn}
+use Rattle.table_route.specs.Route.{spelledIn}
 use Rattle.plan_text.specs.Text.{planText}
 
 -- by what left has there: left's path, or right's

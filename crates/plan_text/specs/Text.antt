@@ -6,8 +6,8 @@ use Prim.Native.Nat.{ℕ}
 use Rattle.tree.specs.Forest.{TreePath}
 use Rattle.settle.specs.Results.{Line, Line.line, Lines}
 use Rattle.plan.specs.Items.{kind}
-use Rattle.tally.specs.declared.Tally.{Tally}
-use Rattle.tally.specs.Count.{tallyOf}
+use Rattle.plan_tally.specs.declared.Tally.{Tally}
+use Rattle.plan_tally.specs.Count.{tallyOf}
 use Rattle.listing.specs.Bytes.{text}
 use Rattle.listing.specs.Writing.{nameText, decimal}
 

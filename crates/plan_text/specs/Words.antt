@@ -4,9 +4,9 @@ use mathlib.Core.List.{List, [], _++_}
 use mathlib.Core.Bool.{cond}
 use lib.ListN.{length, drop, getD}
 use Prim.Native.Nat.{ℕ, zero, suc, _/_}
-use Rattle.cursor.specs.Cursor.{isRow}
-use Rattle.tally.specs.declared.Tally.{Tally}
-use Rattle.route.specs.Route.{pathOf}
+use Rattle.plan_cursor.specs.Cursor.{isRow}
+use Rattle.plan_tally.specs.declared.Tally.{Tally}
+use Rattle.table_route.specs.Route.{pathOf}
 use Rattle.plan_text.specs.Text.{marked, pathText, countsText}
 
 -- the path of row i of the table l, or of row j of r; nothing where neither is a row

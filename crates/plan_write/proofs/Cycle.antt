@@ -7,11 +7,11 @@ use native.Mathlib.Nat.{not-suc-le-zero}
 use native.Mathlib.Numerals.{sub-one}
 use lib.ListN.{length}
 use Prim.Native.Nat.{ℕ, zero, suc, _+_, _-_, _≤_, _<_}
-use Rattle.row.specs.Buffer.{written}
-use Rattle.cursor.specs.Cursor.{least, decision}
-use Rattle.cursor.specs.declared.Rows.{Rows}
-use Rattle.cursor.specs.declared.Decision.{Decision}
-use Rattle.cursor.specs.declared.Decision.the-variants.{Agreed, LeftGets, RightGets, Clash}
+use Rattle.table_row.specs.Buffer.{written}
+use Rattle.plan_cursor.specs.Cursor.{least, decision}
+use Rattle.plan_cursor.specs.declared.Rows.{Rows}
+use Rattle.plan_cursor.specs.declared.Decision.{Decision}
+use Rattle.plan_cursor.specs.declared.Decision.the-variants.{Agreed, LeftGets, RightGets, Clash}
 use Rattle.plan.specs.Settle.{four, decisionWords, ended, past, merge, flatten, firsts, both, entry, folder}
 use Rattle.plan.specs.Writes.{Writes}
 use Rattle.plan.proofs.Writes.{then, onward}

@@ -3,102 +3,18 @@
 //   move TARGET SOURCE PATH DEPTH ROOM  a path has a byte a name
 //   add ROWS SOURCE NAME ROOM           a move at a name of a root and its files
 use libc::STDIN_FILENO;
-use tree::Profile;
-
-// The slot of a byte: a name of that byte, or one of three that no path may have within its depth.
-fn slot_of(b: u8) -> [u32; 8] {
-    let mut slot = [0u32; 8];
-    slot[0] = sample::name_of(b);
-    if b == b'^' {
-        slot[0] = 0x2E2E0000;
-    }
-    if b == b'!' {
-        slot[0] = 0x61006100;
-    }
-    if b == b'~' {
-        slot[0] = 0;
-        slot[7] = 1;
-    }
-    slot
-}
-
-// The path in field k of a line.
-fn path_of(line: &[u8], k: usize) -> [[u32; 8]; 16] {
-    let mut names = [[0u32; 8]; 16];
-    let mut at = sample::field(line, k);
-    let mut i = 0;
-    while at < line.len() {
-        if line[at] == b' ' {
-            return names;
-        }
-        if i == 16 {
-            return names;
-        }
-        names[i] = slot_of(line[at]);
-        at += 1;
-        i += 1;
-    }
-    names
-}
-
-// A move with the first words of a room.
-fn tell_move(
-    line: &[u8],
-    target: &[u32],
-    source: &[u32],
-    names: [[u32; 8]; 16],
-    depth: u32,
-    result: &mut [u32],
-    room: usize,
-) {
-    if result.len() < room {
-        return;
-    }
-    show::print_case(line);
-    let rows = show::print_answer(moves::make_move(
-        Profile::Exact,
-        target,
-        source,
-        names,
-        depth,
-        &mut result[..room],
-    ));
-    show::print_result(result, rows);
-    show::print(b"\n");
-}
-
-// A line `move`.
-fn try_move(line: &[u8]) {
-    let mut target = [0u32; 400];
-    let n = sample::fill(line, 1, &mut target);
-    let mut source = [0u32; 400];
-    let m = sample::fill(line, 2, &mut source);
-    let names = path_of(line, 3);
-    let depth = sample::small(line, 4);
-    let mut result = [show::CANARY; 500];
-    let room = sample::count(line, 5);
-    tell_move(
-        line,
-        &target[..n],
-        &source[..m],
-        names,
-        depth,
-        &mut result,
-        room,
-    );
-}
 
 // A line `add`.
 fn try_add(line: &[u8]) {
     let mut target = [0u32; 81960];
-    let n = sample::fill_many(&mut target, sample::small(line, 1));
+    let n = try_rows::fill_many(&mut target, try_fields::small(line, 1));
     let mut source = [0u32; 40];
-    let m = sample::fill(line, 2, &mut source);
+    let m = try_sample::fill(line, 2, &mut source);
     let mut names = [[0u32; 8]; 16];
-    names[0] = [sample::word(line, 3), 0, 0, 0, 0, 0, 0, 0];
-    let mut result = [show::CANARY; 81980];
-    let room = sample::count(line, 4);
-    tell_move(
+    names[0] = [try_fields::word(line, 3), 0, 0, 0, 0, 0, 0, 0];
+    let mut result = [try_show::CANARY; 81980];
+    let room = try_fields::count(line, 4);
+    try_move::tell_move(
         line,
         &target[..n],
         &source[..m],
@@ -115,7 +31,7 @@ fn try_line(line: &[u8]) {
         return;
     }
     if line[0] == b'm' {
-        try_move(line);
+        try_move::try_move(line);
     } else {
         try_add(line);
     }
@@ -125,7 +41,7 @@ fn try_line(line: &[u8]) {
 fn try_lines(text: &[u8]) {
     let mut from = 0;
     while from < text.len() {
-        let end = sample::line_end(text, from);
+        let end = try_fields::line_end(text, from);
         try_line(&text[from..end]);
         if end == text.len() {
             return;

@@ -1,9 +1,9 @@
 -- `kantifero::kantifero_check` meets its contract: the place is a row of at most 4,096.
 use native.Mathlib.Omega.{arith}
 use borrow.Author.Needs.{needs}
-use Rattle.rules.proofs.Passing.{check-is}
+use Rattle.table_rules.proofs.Passing.{check-is}
 use Rattle.kantifero.proofs.Bounds.{check-place}
-use Rattle.kantifero.specs.Words.{answerWords}
+use Rattle.kantifero_words.specs.Words.{answerWords}
 use mathlib.Core.Path.{_∙_, ap}
 use Rattle.kantifero.proofs.kantifero_check.Statement.{statement}
 use Rattle.kantifero.proofs.kantifero_check.Tie as tie

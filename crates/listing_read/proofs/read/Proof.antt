@@ -1,7 +1,7 @@
 -- `read` meets its contract: zeroed, then the form, then the lines; zeroed again after a refusal.
 use lib.ListN.{length, length-replicate}
 use Prim.Native.Nat.{ℕ}
-use Rattle.listing_read.proofs.Answered.{read-accepted, read-formless, read-refused, zeros-all}
+use Rattle.listing_read_lines.proofs.Answered.{read-accepted, read-formless, read-refused, zeros-all}
 use borrow.Author.Needs.{needs}
 use Rattle.listing_read.proofs.read.Statement.{statement}
 use Rattle.listing_read.proofs.read.Tie as tie

@@ -1,8 +1,8 @@
 -- `listing_write::write` meets its contract: the table is checked first.
 use mathlib.Core.Path.{sym, ap, _∙_}
 use borrow.Author.Needs.{needs}
-use Rattle.rules.specs.Answer.{isAccepted}
-use Rattle.rules.proofs.Passing.{check-is, check-passes}
+use Rattle.table_rules.specs.Answer.{isAccepted}
+use Rattle.table_rules.proofs.Passing.{check-is, check-passes}
 use Rattle.listing_write.proofs.Due.{passes, stops}
 use Rattle.listing_write.proofs.write.Statement.{statement}
 use Rattle.listing_write.proofs.write.Tie as tie

@@ -6,14 +6,14 @@ use native.Mathlib.Omega.{arith}
 use lib.ListN.{length}
 use Prim.Native.Nat.{ℕ}
 use borrow.Author.Needs.{needs}
-use Rattle.row.specs.Tree.{treeOf}
+use Rattle.table_row.specs.Tree.{treeOf}
 use Rattle.listing.specs.Writing.{textOf}
-use Rattle.rules.proofs.Passed.{passed-words, passed-rows, passed-formed}
-use Rattle.rules.proofs.Small.{small-all}
-use Rattle.spell.proofs.Poured.{poured-empty, poured-over}
-use Rattle.listing_write.specs.Rows.{textByRows}
+use Rattle.table_rules.proofs.Passed.{passed-words, passed-rows, passed-formed}
+use Rattle.table_rules.proofs.Small.{small-all}
+use Rattle.listing_spell.proofs.Poured.{poured-empty, poured-over}
+use Rattle.listing_content.specs.Rows.{textByRows}
 use Rattle.listing_write.specs.Contract.{fits}
-use Rattle.listing_write.proofs.Lines.{listing-text}
+use Rattle.listing_content.proofs.Lines.{listing-text}
 use Rattle.listing_write.proofs.Due.{no-room, done, fits-lent}
 use Rattle.listing_write.proofs.write_fine.Statement.{statement}
 use Rattle.listing_write.proofs.write_fine.Tie as tie

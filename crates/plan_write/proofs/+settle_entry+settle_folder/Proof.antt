@@ -7,9 +7,9 @@ use Prim.Native.Nat.{ℕ, _<_, _≤_, _+_, _*_}
 use borrow.Author.Needs.{needs}
 use borrow.Fn.Kinds.{In}
 use borrow.Fn.PlainCycle.{Measures, is, falls, and}
-use Rattle.row.specs.Buffer.{written}
-use Rattle.cursor.specs.Cursor.{decision}
-use Rattle.cursor.specs.declared.Decision.the-variants.{Agreed}
+use Rattle.table_row.specs.Buffer.{written}
+use Rattle.plan_cursor.specs.Cursor.{decision}
+use Rattle.plan_cursor.specs.declared.Decision.the-variants.{Agreed}
 use Rattle.plan.specs.Settle.{folder}
 use Rattle.plan.specs.Writes.{Writes}
 use Rattle.plan.proofs.Writes.{done}
@@ -22,13 +22,13 @@ use Rattle.plan_write.proofs.+settle_entry+settle_folder.Lts-settle_ent
 use Rattle.plan_write.proofs.settle_folder.Reads as settle-folder
 use Rattle.plan_write.proofs.settle_folder.Kinds as settle-folder-kinds
 use Rattle.plan_write.proofs.+settle_entry+settle_folder.Lts-settle_folder as settle-folder-lts
-use Rattle.cursor.proofs.decide.Reads as decide-reads
-use Rattle.cursor.proofs.least_of.Reads as least-of-reads
-use Rattle.plan_write.proofs.both_at.Reads as both-at-reads
-use Rattle.plan_write.proofs.ended_at.Reads as ended-at-reads
-use Rattle.plan_write.proofs.firsts_at.Reads as firsts-at-reads
-use Rattle.plan_write.proofs.past_at.Reads as past-at-reads
-use Rattle.plan_write.proofs.push.Reads as push-reads
+use Rattle.plan_cursor.proofs.decide.Reads as decide-reads
+use Rattle.plan_cursor.proofs.least_of.Reads as least-of-reads
+use Rattle.plan_steps.proofs.both_at.Reads as both-at-reads
+use Rattle.plan_steps.proofs.ended_at.Reads as ended-at-reads
+use Rattle.plan_steps.proofs.firsts_at.Reads as firsts-at-reads
+use Rattle.plan_steps.proofs.past_at.Reads as past-at-reads
+use Rattle.plan_steps.proofs.push.Reads as push-reads
 
 abbrev μ-settle-entry : Measures 4 settle-entry-kinds.ps ℕ
 μ-settle-entry κs a = 2 * a .1 .1 .1 .1 .1 .0

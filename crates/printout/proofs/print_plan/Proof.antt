@@ -1,9 +1,9 @@
 -- `print_plan` meets its contract: the first refused file, or the plan of the three.
 use lib.ListN.{length-replicate}
 use Prim.Native.Nat.{ℕ}
-use Rattle.spell.proofs.Poured.{puts-within}
-use Rattle.printout.specs.Printed.{fileRead}
-use Rattle.printout.proofs.Files.{Taken, all-read, no-archive, no-left, no-right, not-taken, taken, taken-part}
+use Rattle.listing_spell.proofs.Poured.{puts-within}
+use Rattle.printout_text.specs.Printed.{fileRead}
+use Rattle.printout_text.proofs.Files.{Taken, all-read, no-archive, no-left, no-right, not-taken, taken, taken-part}
 use native.Mathlib.Omega.{arith}
 use borrow.Author.Needs.{needs}
 use Rattle.printout.proofs.print_plan.Statement.{statement}

@@ -41,23 +41,23 @@ use denote.Triple.Table.{entered, cited}
 use denote.Triple.Clauses.{ensured, lasts}
 use denote.Triple.Walked.{says, Stays, stay-ref, stay-none, stay-none-slice, gave-slice, walkOf, AllGo, goes-ref, goes-none, goes-none-slice, goes-gave-slice, Walks, ends-at, walked, walk-meets}
 use denote.Exit.{yes}
-use Rattle.reconcile.specs.Run.{lent, ReconcileContract}
+use Rattle.plan_run.specs.Run.{lent, ReconcileContract}
 use Rattle.tree.specs.declared.Profile.{Profile}
-use Rattle.tally.specs.declared.Tally.{Tally}
-use Rattle.reconcile.specs.declared.Reconciled.{Reconciled}
-use Rattle.reconcile.specs.declared.Ran.{Ran}
+use Rattle.plan_tally.specs.declared.Tally.{Tally}
+use Rattle.plan_run.specs.declared.Reconciled.{Reconciled}
+use Rattle.plan_run.specs.declared.Ran.{Ran}
 use Rattle.tree.proofs.Profile as E
 use Rattle.tree.proofs.Profile.Laws as E′
-use Rattle.tally.proofs.Tally as T
-use Rattle.tally.proofs.Tally.Laws as T′
-use Rattle.reconcile.proofs.Reconciled as N
-use Rattle.reconcile.proofs.Reconciled.Laws as N′
-use Rattle.reconcile.proofs.Ran as R
-use Rattle.reconcile.proofs.Ran.Laws as R′
-use Rattle.reconcile.proofs.reconcile_plain as reconcile-plain
-use Rattle.reconcile.proofs.reconcile_plain.Symbol as reconcile-plain-def
-use Rattle.reconcile.proofs.reconcile_plain.Symbol.{name as #reconcile·reconcile-plain}
-use Rattle.reconcile.proofs.reconcile_plain.Met as reconcile-plain-thm
+use Rattle.plan_tally.proofs.Tally as T
+use Rattle.plan_tally.proofs.Tally.Laws as T′
+use Rattle.plan_run.proofs.Reconciled as N
+use Rattle.plan_run.proofs.Reconciled.Laws as N′
+use Rattle.plan_run.proofs.Ran as R
+use Rattle.plan_run.proofs.Ran.Laws as R′
+use Rattle.reconcile_plain.proofs.reconcile_plain as reconcile-plain
+use Rattle.reconcile_plain.proofs.reconcile_plain.Symbol as reconcile-plain-def
+use Rattle.reconcile_plain.proofs.reconcile_plain.Symbol.{name as #reconcile-plain·reconcile-plain}
+use Rattle.reconcile_plain.proofs.reconcile_plain.Met as reconcile-plain-thm
 use Rattle.reconcile.proofs.reconcile.Key.{name as #reconcile·reconcile}
 use Rattle.reconcile.proofs.reconcile as reconcile′
 use Rattle.reconcile.proofs.reconcile.Statement as stated
@@ -166,7 +166,7 @@ module _ {M : Type 1} (𝓤 : URA M) (H : Heap 𝓤) (A : Atoms 𝓤) (W : Given
       suffices ! _ (ends-at 𝓤 H A reconcile′.ended stayed (reconcile′.clauses 𝓤 H A at-mem run) W (((κ0, (κ1, (κ2, (κ3, (κ4, (κ5, (κ6, (κ7, tt)))))))), (q0, (q1, (q2, (q3, (q4, (q5, (q6, (q7, tt)))))))), tt, a, vals), tt) (nm (r .answer)) (r .answer) (tt, (tt, (tt, (tt, (z0, (z1, (z2, (z3, (r .tally, tt))))))))) (tt, (tt, (tt, (tt, (l0, (l1, (l2, (l3, (tt, tt)))))))))) $ says ! e $
       move ! (3 ∷ []) $ split ! $ move ! (1 ∷ []) $ split ! $ move ! (1 ∷ []) $ split ! $ move ! (1 ∷ []) $ split ! $ move ! (1 ∷ []) $ split ! $ move ! (1 ∷ []) $ split ! $ move ! (1 ∷ []) $ split ! $ move ! (10 ∷ 1 ∷ []) $ join ! $ move ! (1 ∷ 0 ∷ []) $ join ! $ move ! (1 ∷ 0 ∷ []) $ join ! $ move ! (1 ∷ 0 ∷ []) $ join ! $ move ! (1 ∷ 0 ∷ []) $ join ! $ move ! (1 ∷ 0 ∷ []) $ join ! $ move ! (1 ∷ 0 ∷ []) $ join ! $ move ! (1 ∷ 0 ∷ []) $ join ! $ frame ! $ feqI ! (List Val) (vptr b o ∷ []) (vptr b o ∷ []) refl $ fjoin3 ! $ nothing ! $ move ! (1 ∷ 0 ∷ []) $ fjoin ! $ move ! (4 ∷ 0 ∷ []) $ fjoin ! $ move ! (3 ∷ 0 ∷ []) $ fjoin ! $ move ! (2 ∷ 0 ∷ []) $ fjoin ! $ move ! (1 ∷ 0 ∷ []) $ fjoin ! $ move ! (3 ∷ 0 ∷ []) $ fjoin ! $ move ! (2 ∷ 0 ∷ []) $ fjoin ! $ move ! (1 ∷ 0 ∷ []) $ fjoin ! $ move ! (1 ∷ 0 ∷ []) $ fjoin ! $ owned ! N.the-row (Is N.the-row) (LL.makes N.the-type N′.the-plain 𝓤 H A) (r .answer) _ (result-is r g) $ move ! (1 ∷ 0 ∷ []) $ done !
 
-  module _ (C : Calls 𝓤 H) (Λ : Loops 𝓤 H) (fm : FmC 𝓤 H (W .laws) C) (known : Triple 𝓤 (C #reconcile·reconcile-plain) (Callee 𝓤 H A at-mem run)) where
+  module _ (C : Calls 𝓤 H) (Λ : Loops 𝓤 H) (fm : FmC 𝓤 H (W .laws) C) (known : Triple 𝓤 (C #reconcile-plain·reconcile-plain) (Callee 𝓤 H A at-mem run)) where
     walk : Is E.the-row p (vp ∷ []) → Is (ShrSlice (named 0) κ0 u32) x0 (v0 ∷ []) → Is (ShrSlice (named 1) κ1 u32) x1 (v1 ∷ []) → Is (ShrSlice (named 2) κ2 u32) x2 (v2 ∷ []) → Is (MutSlice (named 3) κ3 u32) x3 (v3 ∷ []) → Is (MutSlice (named 4) κ4 u32) x4 (v4 ∷ []) → Is (MutSlice (named 5) κ5 u32) x5 (v5 ∷ []) → Is (MutSlice (named 6) κ6 u32) x6 (v6 ∷ []) → ent 𝓤 (onEntry 𝓤 H A reconcile′.signature (κ0, (κ1, (κ2, (κ3, (κ4, (κ5, (κ6, (κ7, tt)))))))) (q0, (q1, (q2, (q3, (q4, (q5, (q6, (q7, tt)))))))) a vals) (WpFn 𝓤 H C Λ code.function (vp ∷ v0 ∷ v1 ∷ v2 ∷ v3 ∷ v4 ∷ v5 ∷ v6 ∷ vptr b o ∷ []) Post)
     walk pp p0 p1 p2 p3 p4 p5 p6 =
         qed W ((‵ (flft κ0 q0) ⊛ ‵ (flft κ1 q1) ⊛ ‵ (flft κ2 q2) ⊛ ‵ (flft κ3 q3) ⊛ ‵ (flft κ4 q4) ⊛ ‵ (flft κ5 q5) ⊛ ‵ (flft κ6 q6) ⊛ ‵ (flft κ7 q7) ⊛ ‵ ftrue) ∷ ‵ (owns (E.the-row ∷ ShrSlice (named 0) κ0 u32 ∷ ShrSlice (named 1) κ1 u32 ∷ ShrSlice (named 2) κ2 u32 ∷ MutSlice (named 3) κ3 u32 ∷ MutSlice (named 4) κ4 u32 ∷ MutSlice (named 5) κ5 u32 ∷ MutSlice (named 6) κ6 u32 ∷ MutRef (named 7) κ7 T.the-row ∷ []) a vals) ∷ []) ∵ enter ! C Λ code.function (vp ∷ v0 ∷ v1 ∷ v2 ∷ v3 ∷ v4 ∷ v5 ∷ v6 ∷ vptr b o ∷ []) _ $
@@ -186,7 +186,7 @@ module _ {M : Type 1} (𝓤 : URA M) (H : Heap 𝓤) (A : Atoms 𝓤) (W : Given
         returns ! (look ! 53 refl) $ forget ! 53 refl $ forget ! 51 refl $ forget ! 49 refl $ forget ! 47 refl $ forget ! 45 refl $ forget ! 43 refl $ forget ! 41 refl $ forget ! 39 refl $ forget ! 37 refl $ forget ! 35 refl $ forget ! 33 refl $ forget ! 31 refl $ forget ! 29 refl $ forget ! 27 refl $ forget ! 25 refl $ forget ! 23 refl $ forget ! 21 refl $ forget ! 19 refl $ forget ! 17 refl $ forget ! 15 refl $ move ! (53 ∷ 54 ∷ []) $ free1 ! $ move ! (51 ∷ 52 ∷ []) $ free1 ! $ move ! (49 ∷ 50 ∷ []) $ free1 ! $ move ! (47 ∷ 48 ∷ []) $ free1 ! $ move ! (45 ∷ 46 ∷ []) $ free1 ! $ move ! (43 ∷ 44 ∷ []) $ free1 ! $ move ! (41 ∷ 42 ∷ []) $ free1 ! $ move ! (39 ∷ 40 ∷ []) $ free1 ! $ move ! (37 ∷ 38 ∷ []) $ free1 ! $ move ! (35 ∷ 36 ∷ []) $ free1 ! $ move ! (33 ∷ 34 ∷ []) $ free1 ! $ move ! (31 ∷ 32 ∷ []) $ free1 ! $ move ! (29 ∷ 30 ∷ []) $ free1 ! $ move ! (27 ∷ 28 ∷ []) $ free1 ! $ move ! (25 ∷ 26 ∷ []) $ free1 ! $ move ! (23 ∷ 24 ∷ []) $ free1 ! $ move ! (21 ∷ 22 ∷ []) $ free1 ! $ move ! (19 ∷ 20 ∷ []) $ free1 ! $ move ! (17 ∷ 18 ∷ []) $ free1 ! $ move ! (15 ∷ 16 ∷ []) $ free1 ! $ free0 ! $ keep ! (0 ∷ 1 ∷ 2 ∷ 4 ∷ 9 ∷ 8 ∷ 7 ∷ 5 ∷ 13 ∷ 12 ∷ 11 ∷ 14 ∷ []) $ by ! (exits r (zs .1 .1 .1 .1 .0) (zs .1 .1 .1 .1 .1 .0) (zs .1 .1 .1 .1 .1 .1 .0) (zs .1 .1 .1 .1 .1 .1 .1 .0) (known-as r u is) l0 l1 l2 l3 e))))))))))))))))))))))))))))))))
 
 module _ {M : Type 1} (𝓤 : URA M) (H : Heap 𝓤) (A : Atoms 𝓤) (W : Given 𝓤 H A) (at-mem : Memory → SProp 𝓤) (run : Routine → Fun 𝓤) where
-  walks : (C : Calls 𝓤 H) (Λ : Loops 𝓤 H) → FmC 𝓤 H (W .laws) C → Triple 𝓤 (C #reconcile·reconcile-plain) (Callee 𝓤 H A at-mem run) → Walks 𝓤 H A reconcile′.ended stayed (WpFn 𝓤 H C Λ code.function) (reconcile′.clauses 𝓤 H A at-mem run)
+  walks : (C : Calls 𝓤 H) (Λ : Loops 𝓤 H) → FmC 𝓤 H (W .laws) C → Triple 𝓤 (C #reconcile-plain·reconcile-plain) (Callee 𝓤 H A at-mem run) → Walks 𝓤 H A reconcile′.ended stayed (WpFn 𝓤 H C Λ code.function) (reconcile′.clauses 𝓤 H A at-mem run)
   walks C Λ fm known =
       walked 𝓤 H A reconcile′.ended stayed (reconcile′.clauses 𝓤 H A at-mem run) (WpFn 𝓤 H C Λ code.function) (λ κs. (EL.vals E.the-type E′.the-laws, (slice-vals, (slice-vals, (slice-vals, (slice-vals, (slice-vals, (slice-vals, (slice-vals, (ptr-vals, tt))))))))))
       (λ κs. (EL.tells E.the-type E′.the-laws, (shr-slice-tells (named 0) (κs .0) u32, (shr-slice-tells (named 1) (κs .1 .0) u32, (shr-slice-tells (named 2) (κs .1 .1 .0) u32, (mut-slice-tells (named 3) (κs .1 .1 .1 .0) u32, (mut-slice-tells (named 4) (κs .1 .1 .1 .1 .0) u32, (mut-slice-tells (named 5) (κs .1 .1 .1 .1 .1 .0) u32, (mut-slice-tells (named 6) (κs .1 .1 .1 .1 .1 .1 .0) u32, (mut-tells (named 7) (κs .1 .1 .1 .1 .1 .1 .1 .0) T.the-row, tt))))))))))
@@ -196,7 +196,7 @@ module _ {M : Type 1} (𝓤 : URA M) (H : Heap 𝓤) (A : Atoms 𝓤) (W : Given
   goes = (goes-none 𝓤 H A W 8 (λ κs. E.the-row) yes (λ κs x f. refl), (goes-none-slice 𝓤 H A W 8 (0 ∷ []) tt (plain (λ _. u32)) yes, (goes-none-slice 𝓤 H A W 8 (1 ∷ []) tt (plain (λ _. u32)) yes, (goes-none-slice 𝓤 H A W 8 (2 ∷ []) tt (plain (λ _. u32)) yes, (goes-gave-slice 𝓤 H A W 8 3 tt (plain (λ _. u32)), (goes-gave-slice 𝓤 H A W 8 4 tt (plain (λ _. u32)), (goes-gave-slice 𝓤 H A W 8 5 tt (plain (λ _. u32)), (goes-gave-slice 𝓤 H A W 8 6 tt (plain (λ _. u32)), (goes-ref 𝓤 H A W 8 7 tt (plain (λ _. T.the-row)), tt)))))))))
 
 meets : {M : Type 1} (𝓤 : URA M) (H : Heap 𝓤) (A : Atoms 𝓤) (W : Given 𝓤 H A) (at-mem : Memory → SProp 𝓤) (run : Routine → Fun 𝓤) (𝓣 : Tables 𝓤 H)
-    → Triple 𝓤 (𝓣 .C #reconcile·reconcile-plain) (Callee 𝓤 H A at-mem run)
+    → Triple 𝓤 (𝓣 .C #reconcile-plain·reconcile-plain) (Callee 𝓤 H A at-mem run)
     → Meets 𝓤 H A reconcile′.signature (WpFn 𝓤 H (𝓣 .C) (𝓣 .Λ) code.function) (reconcile′.spec 𝓤 H A at-mem run)
 meets 𝓤 H A W at-mem run 𝓣 known = walk-meets 𝓤 H A reconcile′.ended stayed W (goes 𝓤 H A W at-mem run) (reconcile′.clauses 𝓤 H A at-mem run) (WpFn 𝓤 H (𝓣 .C) (𝓣 .Λ) code.function) (WpFn-mono 𝓤 H (W .laws) 𝓣 code.function) (walks 𝓤 H A W at-mem run (𝓣 .C) (𝓣 .Λ) (fmOf 𝓤 H (W .laws) 𝓣) known)
 
@@ -206,4 +206,4 @@ reconcile-spec 𝓤 H 𝓜 𝓖 𝓡 =
     entered 𝓤 H (tripleOf 𝓤 H (𝓖 .A) reconcile′.signature (reconcile′.spec 𝓤 H (𝓖 .A) (𝓜 .mem) (𝓡 .run)))
     (tables 𝓤 H 𝓜 𝓡 code.env .C) (tables 𝓤 H 𝓜 𝓡 code.env .Λ) #reconcile·reconcile code.function (code.unfolded 𝓤 H 𝓜 𝓡)
     (meets 𝓤 H (𝓖 .A) (givenOf 𝓤 H 𝓜 𝓖) (𝓜 .mem) (𝓡 .run) (tablesOf 𝓤 H 𝓜 (tables 𝓤 H 𝓜 𝓡 code.env))
-    (cited 𝓤 H (Callee 𝓤 H (𝓖 .A) (𝓜 .mem) (𝓡 .run)) 𝓜 𝓡 code.env #reconcile·reconcile-plain reconcile-plain-def.routine code.calls-reconcile·reconcile-plain (reconcile-plain-thm.met 𝓤 H 𝓜 𝓖 𝓡)))
+    (cited 𝓤 H (Callee 𝓤 H (𝓖 .A) (𝓜 .mem) (𝓡 .run)) 𝓜 𝓡 code.env #reconcile-plain·reconcile-plain reconcile-plain-def.routine code.calls-reconcile-plain·reconcile-plain (reconcile-plain-thm.met 𝓤 H 𝓜 𝓖 𝓡)))

@@ -1,10 +1,11 @@
 //! Texts with one fault each, and the number and line that are due for it.
 
-use super::layout::{layout, Before, Layout, Line, What};
+use super::layout::{layout, Layout, Line, What};
 use super::misplaced::{bad_place, too_deep, twice};
+use super::spots::{fresh_name, inserted, spot};
 use super::texts::padded;
-use super::words::{extra, file_words, line_ends, name_word, spaced, type_word};
-use super::{trees, Random};
+use super::words::{extra, file_words, spaced, type_word};
+use super::Random;
 use crate::listing::MOST_BYTES;
 use crate::name::Profile;
 use crate::table::{MOST_ROWS, ROW};
@@ -78,27 +79,6 @@ fn line_of_row(layout: &Layout, rows: usize) -> u32 {
     layout.number(at.expect("the tree has more rows"))
 }
 
-/// A random place for a line at which the given holds.
-pub(super) fn spot(rng: &mut Random, layout: &Layout, fits: impl Fn(&Before) -> bool) -> usize {
-    let all = 0..=layout.lines.len();
-    let spots: Vec<usize> = all.filter(|&at| fits(layout.before(at))).collect();
-    rng.pick(&spots)
-}
-
-/// Puts lines in, of which the last is the faulty one, and gives that one's number.
-pub(super) fn inserted(layout: &mut Layout, at: usize, lines: Vec<Vec<u8>>) -> u32 {
-    let earlier = &lines[..lines.len() - 1];
-    let number = layout.number(at) + line_ends(earlier.iter().flatten());
-    let before = layout.before(at).clone();
-    let made = lines.into_iter().map(|bytes| Line {
-        bytes,
-        what: What::Entry,
-        before: before.clone(),
-    });
-    layout.lines.splice(at..at, made);
-    number
-}
-
 fn bad_end(rng: &mut Random, text: &mut Vec<u8>) {
     if rng.one_in(2) {
         let over = 1 + rng.below(40);
@@ -163,14 +143,6 @@ fn bad_name(rng: &mut Random) -> Vec<u8> {
         rest.push(type_word(rng.one_in(2)));
     }
     spaced(rng, 6, &name, &rest)
-}
-
-/// A word for a name that is not listed yet.
-pub(super) fn fresh_name(rng: &mut Random, profile: Profile, before: &Before) -> Vec<u8> {
-    let names = before.names.iter();
-    let listed = names.map(|name| (name.clone(), Node::default())).collect();
-    let name = trees::fresh(rng, profile, &listed);
-    name_word(rng, 6, name.spelled())
 }
 
 fn bad_keyword(rng: &mut Random, profile: Profile, layout: &mut Layout) -> u32 {

@@ -1,8 +1,8 @@
 //! Lines that would be good elsewhere: numbers 11, 13 and 14.
 
-use super::faults::{fresh_name, inserted, spot};
 use super::layout::{Before, Layout};
 use super::spelling::recased;
+use super::spots::{fresh_name, inserted, spot};
 use super::words::{extra, file_words, name_word, spaced, type_word};
 use super::{trees, Random};
 use crate::name::Profile;

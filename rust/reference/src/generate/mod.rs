@@ -5,6 +5,7 @@ mod layout;
 mod misplaced;
 mod shapes;
 mod spelling;
+mod spots;
 mod tables;
 mod texts;
 mod trees;

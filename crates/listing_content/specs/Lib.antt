@@ -1,0 +1,2 @@
+-- A table's text, row by row.
+pub mod Rows

@@ -1,0 +1,53 @@
+// Where a row's subtree ends, its words, and whether two subtrees are the same.
+ghost use mathlib.Core.Path.{_≡_};
+ghost use Prim.Native.Nat.{_+_, _*_, _%_, _≤_};
+ghost use lib.ListN.{length};
+ghost use Rattle.tree.specs.Same.{sameWords};
+ghost use Rattle.table_find.specs.Subtree.{endOf, subtree};
+
+// The row of an entry, or that there is none.
+pub enum Found {
+    At(usize),
+    Nothing,
+}
+
+// The first row after row i whose depth is not greater, or the number of rows.
+pub fn subtree_end(t: &[u32], i: usize) -> usize
+    requires { ⌜ 20 * (i + 1) ≤ length (now t) ⌝ }
+    ensures { λ r. ⌜ (r ≡ endOf (now (t .entry)) i) × (20 * r ≤ length (now (t .entry))) ⌝ }
+{
+    let n = t.len() / 20;
+    let d = t[20 * i];
+    let mut e = i + 1;
+    while e < n {
+        if t[20 * e] <= d {
+            return e;
+        }
+        e += 1;
+    }
+    e
+}
+
+// The words of the subtree at row i; none where there is no such row.
+pub fn part(t: &[u32], i: u32) -> &[u32]
+    requires { ⌜ length (now t) % 20 ≡ 0 ⌝ }
+    ensures { λ r. ⌜ now r ≡ subtree (now (t .entry)) i ⌝ }
+{
+    let j = table_row::wide(i);
+    if j < t.len() / 20 {
+        let a = 20 * j;
+        let last = subtree_end(t, j);
+        let e = 20 * last;
+        &t[a..e]
+    } else {
+        &t[0..0]
+    }
+}
+
+// Whether the subtrees at row i of w and row j of v are the same; a row that is not there has no words.
+pub fn same_subtrees(w: &[u32], i: u32, v: &[u32], j: u32) -> bool
+    requires { ⌜ (length (now w) % 20 ≡ 0) × (length (now v) % 20 ≡ 0) ⌝ }
+    ensures { λ r. ⌜ r ≡ sameWords (subtree (now (w .entry)) i) (subtree (now (v .entry)) j) ⌝ }
+{
+    table_row::same_words(part(w, i), part(v, j))
+}

@@ -1,0 +1,31 @@
+-- `table_keys::key_name` meets its contract, profile by profile.
+use mathlib.Core.Path.{_∙_}
+use mathlib.Core.List.{map}
+use Rattle.tree.specs.Key.{lowerWord, key}
+use Rattle.table_compare.proofs.Letters.{length-lower}
+use Rattle.table_row.proofs.Buffer.{written-all}
+use borrow.Author.Needs.{needs}
+use Rattle.table_keys.proofs.key_name.Statement.{statement}
+use Rattle.table_keys.proofs.key_name.Tie as tie
+
+returns : tie.Need-returns
+unfolding key
+returns c = rw (c .enum-told .given .1)
+
+returns-2 : tie.Need-returns-2
+unfolding key
+returns-2 c =
+    let n = c .before .before .before .before .before .before .args .t2 in
+    rw (c .before .before .before .before .enum-told2 .given .1) (c .before .copy-lower .ensures ∙ written-all n (map lowerWord n) (length-lower n))
+
+pub key-name-spec : {M : Type 1} → statement M
+key-name-spec =
+    tie.close
+    (tie.spec
+    (λ c. search needs)
+    (λ c. search needs)
+    (λ c. search needs)
+    (λ c. search needs)
+    (λ c κs. search needs)
+    returns
+    returns-2)

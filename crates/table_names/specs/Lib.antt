@@ -1,0 +1,2 @@
+-- The low bytes of a word.
+pub mod Low

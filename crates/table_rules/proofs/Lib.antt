@@ -1,0 +1,19 @@
+-- Laws of the row rules. WellFormed has the theorem, OneOutcome that the check's contract fixes its answer.
+pub mod Plain
+pub mod Rows
+pub mod Says
+pub mod Faults
+pub mod Passing
+pub mod OneOutcome
+pub mod Good
+pub mod Sorted
+pub mod Small
+pub mod Within
+pub mod Trees
+pub mod Fine
+pub mod WellFormed
+pub mod Tests
+pub mod Keyed
+pub mod Passed
+pub mod Exact
+pub mod Examples
