@@ -1,6 +1,6 @@
 // Tries the check of a table, a move and the rows to carry in both profiles. A line of the input is a case, which is printed with
 // what came of it where every byte counts and where letter case is ignored. A line that begins with # is a heading. Tables and
-// paths are those of the crate `spelling`.
+// paths are as `try_spelled_rows` and `try_spelling` say.
 //   check TABLE                             the answer
 //   move TARGET SOURCE PATH DEPTH ROOM      the answer; the result's rows, their sum, and how many words past them are kept
 //   entry LEFT RIGHT KIND LEFTROW RIGHTROW  the count of rows to carry, the rows and their sum

@@ -1,7 +1,7 @@
 // Tries a reconciliation in both profiles. A line of the input is a case, which is printed with what came of it where every byte
 // counts and where letter case is ignored: number, side, place and counts, the tally, the list's words, and for each result its
-// rows, their sum, and how many words past them are kept. A line that begins with # is a heading. Tables are those of the crate
-// `spelling`.
+// rows, their sum, and how many words past them are kept. A line that begins with # is a heading. Tables are as
+// `try_spelled_rows` says.
 //   run ARCHIVE LEFT RIGHT                        with room for more than 4,096 rows
 //   short ARCHIVE LEFT RIGHT ROOM ROOM ROOM ROOM  the rooms are words, of archive, left, right and list
 use libc::STDIN_FILENO;

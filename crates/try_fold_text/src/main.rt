@@ -1,8 +1,8 @@
 // Tries the reading and the writing of listings in both profiles. A line of the input is a case, which is printed with what came
 // of it where every byte counts and where letter case is ignored. A line that begins with # is a heading.
-//   text WORDS TEXT, many WORDS COUNT STEP  the texts of the crate `texts`, read into so many words: the answer, the rows,
+//   text WORDS TEXT, many WORDS COUNT STEP  the texts of `try_texts`, read into so many words: the answer, the rows,
 //                                           their sum, and whether the words past them are zero; then what was read, written
-//   write TABLE BYTES                       a table of the crate `spelling`, written: the answer, the text in brackets, and how
+//   write TABLE BYTES                       a table as in `try_spelled_rows`, written: the answer, the text in brackets, and how
 //                                           many bytes past it are kept
 // A line end is printed as |.
 use libc::STDIN_FILENO;

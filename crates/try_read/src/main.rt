@@ -1,7 +1,7 @@
 // Tries the reading of listings: those that another tool made (LISTINGS.md), and texts at the edges of each rule. A line of the
 // input is a case, which is printed with what came of it: the answer's number, side and place, the sum of the rows, and whether
 // the words past them are zero; a row that is printed has a line of its own. A line that begins with # is a heading.
-// The cases are those of the crate `texts`, and the words in each are the room that is lent: they hold something else before the
+// The cases are those of `try_texts`, and the words in each are the room that is lent: they hold something else before the
 // call.
 use libc::STDIN_FILENO;
 use tree::Profile;
