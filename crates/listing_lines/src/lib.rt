@@ -1,1 +1,1 @@
-// What one line of a listing does to the reader's state and to the table: what is said of it.
+// Definitions and proofs alone: this crate has no code.

@@ -1,1 +1,1 @@
-// A reconciliation's list as text: what is said of it.
+// Definitions and proofs alone: this crate has no code.

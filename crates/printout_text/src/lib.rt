@@ -1,1 +1,1 @@
-// What syncplan prints for the texts of three files: what is said of it.
+// Definitions and proofs alone: this crate has no code.

@@ -4,27 +4,6 @@
 //   add ROWS SOURCE NAME ROOM           a move at a name of a root and its files
 use libc::STDIN_FILENO;
 
-// A line `add`.
-fn try_add(line: &[u8]) {
-    let mut target = [0u32; 81960];
-    let n = try_rows::fill_many(&mut target, try_fields::small(line, 1));
-    let mut source = [0u32; 40];
-    let m = try_sample::fill(line, 2, &mut source);
-    let mut names = [[0u32; 8]; 16];
-    names[0] = [try_fields::word(line, 3), 0, 0, 0, 0, 0, 0, 0];
-    let mut result = [try_show::CANARY; 81980];
-    let room = try_fields::count(line, 4);
-    try_move::tell_move(
-        line,
-        &target[..n],
-        &source[..m],
-        names,
-        1,
-        &mut result,
-        room,
-    );
-}
-
 // One line, by its first letter.
 fn try_line(line: &[u8]) {
     if line.len() == 0 {
@@ -33,7 +12,7 @@ fn try_line(line: &[u8]) {
     if line[0] == b'm' {
         try_move::try_move(line);
     } else {
-        try_add(line);
+        try_add::try_add(line);
     }
 }
 

@@ -1,5 +1,14 @@
-// Prints what a reconciliation answered, its tally and its list.
+// The rooms that a line gives a reconciliation, and prints of its answer, its tally and its list.
 use plan_run::Ran;
+ghost use Prim.Native.Nat.{_≤_};
+
+// The words of a room, in field k of a line.
+pub fn room(line: &[u8], k: usize, most: usize) -> usize
+    ensures { λ r. ⌜ r ≤ most ⌝ }
+{
+    let n = try_fields::count(line, k);
+    if most < n { most } else { n }
+}
 
 // What was answered, and the tally.
 pub fn print_ran(ran: Ran) {

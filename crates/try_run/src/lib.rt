@@ -1,15 +1,6 @@
 // One reconciliation in rooms that a line gives, and what it answers and leaves.
 use plan_tally::Tally;
 use tree::Profile;
-ghost use Prim.Native.Nat.{_≤_};
-
-// The words of a room, in field k of a line.
-fn room(line: &[u8], k: usize, most: usize) -> usize
-    ensures { λ r. ⌜ r ≤ most ⌝ }
-{
-    let n = try_fields::count(line, k);
-    if most < n { most } else { n }
-}
 
 // A run with the rooms of a line, at the start of buffers that are longer.
 pub fn tell_run(
@@ -22,10 +13,10 @@ pub fn tell_run(
     right: &mut [u32],
     list: &mut [u32],
 ) {
-    let a = room(line, 4, archive.len());
-    let b = room(line, 5, left.len());
-    let c = room(line, 6, right.len());
-    let d = room(line, 7, list.len());
+    let a = try_ran::room(line, 4, archive.len());
+    let b = try_ran::room(line, 5, left.len());
+    let c = try_ran::room(line, 6, right.len());
+    let d = try_ran::room(line, 7, list.len());
     let old = Tally {
         left: 7,
         right: 8,

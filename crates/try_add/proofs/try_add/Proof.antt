@@ -1,9 +1,9 @@
--- `try_moves::try_add` is safe: the parts are within the tables.
+-- `try_add::try_add` is safe: the parts are within the tables.
 use native.Mathlib.Omega.{arith}
 use lib.ListN.{length-take}
 use borrow.Author.Needs.{needs}
-use Rattle.try_moves.proofs.try_add.Statement.{statement}
-use Rattle.try_moves.proofs.try_add.Tie as tie
+use Rattle.try_add.proofs.try_add.Statement.{statement}
+use Rattle.try_add.proofs.try_add.Tie as tie
 
 slice-aggregate-tell-move : tie.Need-slice-aggregate-tell-move
 slice-aggregate-tell-move c = simp length-take (omega arith)
