@@ -39,6 +39,10 @@ module _ (p : Profile) (w v : List ℕ) (d : ℕ) (n : Name) (opened : List Foun
   noted-here : length opened ≡ 17 → d ≤ 15 → getD (set opened (suc d) noted) (suc d) Nothing ≡ noted
   noted-here e h = getD-set-same opened (suc d) noted Nothing (omega arith)
 
+-- a row, what comes beneath it, and what comes after that
+joined : (r : Row) (rows below mid gs rest : List Row) → rows ≡ below ++ mid → mid ≡ gs ++ rest → r ∷ rows ≡ r ∷ ((below ++ gs) ++ rest)
+joined r rows below mid gs rest e q = ap (λ (z : List Row). r ∷ z) (e ∙ ap (λ (z : List Row). below ++ z) q ∙ sym (append-assoc below gs rest))
+
 module _ (p : Profile) (w v : List ℕ) where
   -- rows rs of depth suc d and more, before the rows qs, are spelled as gs
   record Goes (d : ℕ) (opened : List Found) (rs gs qs : List Row) : Type 0 where
@@ -80,7 +84,7 @@ module _ (p : Profile) (w v : List ℕ) where
         gives =
             ap (λ (rs : List Row). spelledRows p w v opened (folderRow (suc d) n ∷ rs)) (append-assoc (rowsOf (suc (suc d)) i) (rowsOf (suc d) s) qs)
             ∙ step p w v d n opened (folderRow (suc d) n) (rowsOf (suc (suc d)) i ++ (rowsOf (suc d) s ++ qs)) refl (folder-name (suc d) n (W .0))
-            ∙ rw (spelled-folder w f (suc d) n (W .0 .eight), C .1, K .gives, G .gives) (simp append-assoc);
+            ∙ rw (spelled-folder w f (suc d) n (W .0 .eight), C .1) (joined _ _ (rowsOf (suc (suc d)) (respell p (kids y) i)) _ (rowsOf (suc d) (respell p (kids x) s)) _ (K .gives) (G .gives));
       }
 
 -- words as rows of siblings g of depth suc d, among the entries of the folder k at row f
