@@ -1,2 +1,2 @@
--- The eight words of each exported call's answer, and what it leaves in the lent buffers.
+-- What each exported call answers, and what it leaves in the lent buffers.
 pub mod Calls
