@@ -4,9 +4,9 @@ use plan_tally::Tally;
 ghost use mathlib.Core.Path.{_≡_};
 ghost use Prim.Native.Nat.{_<_};
 ghost use Rattle.plan_run.specs.Run.{lent};
-ghost use Rattle.kantifero_words.specs.Words.{profileOf, checkWords, tallyIn};
-ghost use Rattle.kantifero.specs.Calls.{ReconcileCall, MoveCall, WriteCall, ReadCall};
-ghost use Rattle.kantifero_words.specs.Carried.{CarriedCall};
+ghost use Rattle.kantifero_calls.specs.Words.{profileOf, checkWords, tallyIn};
+ghost use Rattle.kantifero_calls.specs.Calls.{ReconcileCall, MoveCall, WriteCall, ReadCall};
+ghost use Rattle.kantifero_calls.specs.Carried.{CarriedCall};
 
 // Whether a table keeps the rules of a profile.
 #[no_mangle]

@@ -5,8 +5,8 @@ use tree::Profile;
 ghost use mathlib.Core.Path.{_≡_};
 ghost use Prim.Native.Nat.{_<_};
 ghost use Rattle.table_rules.specs.Answer.{placeOf};
-ghost use Rattle.kantifero_words.specs.Words.{profileOf, eight, answerWords, reconciledWords, Narrow};
-ghost use Rattle.kantifero_words.specs.Carried.{partWords, Within};
+ghost use Rattle.kantifero_calls.specs.Words.{profileOf, eight, answerWords, reconciledWords, Narrow};
+ghost use Rattle.kantifero_calls.specs.Carried.{partWords, Within};
 
 // 0 every byte counts, any other word letter case is ignored.
 pub fn profile_of(word: u32) -> Profile

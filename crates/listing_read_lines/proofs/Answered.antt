@@ -15,7 +15,7 @@ use Rattle.listing_reader.specs.State.{zeroed}
 use Rattle.listing_read_lines.specs.Contract.{Answers, RanLines, ReadContract, isTaken, tableAfter}
 
 -- zeros, as many as there are words
-zeros-long : (w : List ℕ) (n : ℕ) → w ≡ zeroed n → length w ≡ n
+pub zeros-long : (w : List ℕ) (n : ℕ) → w ≡ zeroed n → length w ≡ n
 zeros-long w n e = ap length e ∙ length-replicate {A = ℕ} n 0
 
 pub zeros-all : (w : List ℕ) (n : ℕ) → w ≡ zeroed n → w ≡ zeroed (length w)

@@ -3,10 +3,13 @@
 use libc::STDERR_FILENO;
 use libc::STDOUT_FILENO;
 use syncplan_files::Wish;
-use tree::Profile;
 
-// The plan of the three listings.
-fn print(profile: Profile) {
+// The plan of the three listings, or how to ask for it.
+fn main() {
+    let Wish::Plan(profile) = syncplan_files::asked() else {
+        io::write_all(STDERR_FILENO, b"usage: syncplan [--ignore-case]\n");
+        return;
+    };
     let mut archive = [0u8; 16385];
     let a = syncplan_files::load(b"archive.mtree", &mut archive);
     let mut left = [0u8; 16385];
@@ -16,13 +19,4 @@ fn print(profile: Profile) {
     let mut out = syncplan_files::page();
     let n = printout::print_plan(profile, &mut out, &archive[..a], &left[..b], &right[..c]);
     io::write_all(STDOUT_FILENO, &out[..n]);
-}
-
-fn main() {
-    match syncplan_files::asked() {
-        Wish::Plan(profile) => print(profile),
-        Wish::Other => {
-            io::write_all(STDERR_FILENO, b"usage: syncplan [--ignore-case]\n");
-        }
-    }
 }

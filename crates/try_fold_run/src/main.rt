@@ -7,21 +7,10 @@
 use libc::STDIN_FILENO;
 use tree::Profile;
 
-// A run on the tables of a line.
-fn run_in(profile: Profile, line: &[u8], o: &mut [u32], l: &mut [u32], r: &mut [u32]) {
-    let a = try_spelled::fill(line, 1, o);
-    let b = try_spelled::fill(line, 2, l);
-    let c = try_spelled::fill(line, 3, r);
-    try_run_in::run_on(profile, line, &o[..a], &l[..b], &r[..c]);
-}
-
 // A line, in a profile.
 fn try_in(profile: Profile, line: &[u8]) {
-    let mut o = [0u32; 81980];
-    let mut l = [0u32; 81980];
-    let mut r = [0u32; 81980];
     try_show_spelled::print_profile(profile);
-    run_in(profile, line, &mut o, &mut l, &mut r);
+    try_run_spelled::try_run(profile, line);
     try_show::print(b"\n");
 }
 

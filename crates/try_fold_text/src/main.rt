@@ -10,20 +10,13 @@ use tree::Profile;
 ghost use Prim.Native.Nat.{_<_};
 ghost use lib.ListN.{length};
 
-// A line `write`.
-fn try_write(profile: Profile, line: &[u8]) {
-    let mut table = [0u32; 400];
-    let n = try_spelled::fill(line, 1, &mut table);
-    try_written::tell_write(profile, &table[..n], try_fields::count(line, 2));
-}
-
 // A line in a profile, by its first letter.
 fn try_in(profile: Profile, line: &[u8])
     requires { ⌜ 0 < length (now line) ⌝ }
 {
     try_show_spelled::print_profile(profile);
     match line[0] {
-        b'w' => try_write(profile, line),
+        b'w' => try_written::try_write(profile, line),
         _ => try_fold_read::try_read(profile, line),
     }
     try_show::print(b"\n");

@@ -14,8 +14,7 @@ fn room(line: &[u8], k: usize, most: usize) -> usize
     if line[0] != b's' {
         return most;
     }
-    let n = try_fields::count(line, k);
-    if most < n { most } else { n }
+    try_ran::room(line, k, most)
 }
 
 // The list and the three new tables.

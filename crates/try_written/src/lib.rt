@@ -1,4 +1,4 @@
-// Prints the text that a table was written as, and what is left of the room.
+// One case of writing in a profile: a table, the room that is lent, and the answer, the text and what is left of the room.
 use tree::Profile;
 ghost use Prim.Native.Nat.{_≤_, _<_};
 
@@ -61,4 +61,11 @@ fn tell_written(profile: Profile, table: &[u32], text: &mut [u8], room: usize) {
 pub fn tell_write(profile: Profile, table: &[u32], room: usize) {
     let mut text = [MARK; 65600];
     tell_written(profile, table, &mut text, room);
+}
+
+// A line `write`.
+pub fn try_write(profile: Profile, line: &[u8]) {
+    let mut table = [0u32; 400];
+    let n = try_spelled::fill(line, 1, &mut table);
+    tell_write(profile, &table[..n], try_fields::count(line, 2));
 }

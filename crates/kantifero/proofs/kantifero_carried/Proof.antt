@@ -1,6 +1,6 @@
 -- `kantifero::kantifero_carried` meets its contract: the part's words have 32 bits, and are the rows carried.
 use borrow.Author.Needs.{needs}
-use Rattle.kantifero.proofs.Part.{carried-within, carried-part}
+use Rattle.kantifero_calls.proofs.Part.{carried-within, carried-part}
 use Rattle.kantifero.proofs.kantifero_carried.Statement.{statement}
 use Rattle.kantifero.proofs.kantifero_carried.Tie as tie
 

@@ -2,8 +2,8 @@
 use native.Mathlib.Omega.{arith}
 use borrow.Author.Needs.{needs}
 use Rattle.table_rules.proofs.Passing.{check-is}
-use Rattle.kantifero.proofs.Bounds.{check-place}
-use Rattle.kantifero_words.specs.Words.{answerWords}
+use Rattle.kantifero_calls.proofs.Bounds.{check-place}
+use Rattle.kantifero_calls.specs.Words.{answerWords}
 use mathlib.Core.Path.{_∙_, ap}
 use Rattle.kantifero.proofs.kantifero_check.Statement.{statement}
 use Rattle.kantifero.proofs.kantifero_check.Tie as tie

@@ -1,8 +1,8 @@
 -- `kantifero::kantifero_move` meets its contract: the place is a row, or the rows of the result.
 use native.Mathlib.Omega.{arith}
 use borrow.Author.Needs.{needs}
-use Rattle.kantifero.proofs.Says.{says-words}
-use Rattle.kantifero.proofs.Bounds.{move-place}
+use Rattle.kantifero_calls.proofs.Says.{says-words}
+use Rattle.kantifero_calls.proofs.Bounds.{move-place}
 use mathlib.Core.Path.{_∙_}
 use Rattle.kantifero.proofs.kantifero_move.Statement.{statement}
 use Rattle.kantifero.proofs.kantifero_move.Tie as tie

@@ -1,8 +1,8 @@
 -- `kantifero::kantifero_read` meets its contract: the place is a line, or the rows read.
 use native.Mathlib.Omega.{arith}
 use borrow.Author.Needs.{needs}
-use Rattle.kantifero.proofs.Says.{says-words}
-use Rattle.kantifero.proofs.Reading.{read-place}
+use Rattle.kantifero_calls.proofs.Says.{says-words}
+use Rattle.kantifero_calls.proofs.Reading.{read-place}
 use lib.ListN.{length}
 use mathlib.Core.Path.{_∙_}
 use Rattle.kantifero.proofs.kantifero_read.Statement.{statement}

@@ -1,7 +1,7 @@
 -- `kantifero::kantifero_reconcile` meets its contract: the counts have 32 bits, and the buffers are the run's.
 use borrow.Author.Needs.{needs}
-use Rattle.kantifero.proofs.Counts.{run-narrow}
-use Rattle.kantifero.proofs.Says.{reconcile-call}
+use Rattle.kantifero_calls.proofs.Counts.{run-narrow}
+use Rattle.kantifero_calls.proofs.Says.{reconcile-call}
 use Rattle.kantifero.proofs.kantifero_reconcile.Statement.{statement}
 use Rattle.kantifero.proofs.kantifero_reconcile.Tie as tie
 

@@ -1,8 +1,8 @@
 -- `kantifero::kantifero_write` meets its contract: the place is a row, or the bytes of the text.
 use native.Mathlib.Omega.{arith}
 use borrow.Author.Needs.{needs}
-use Rattle.kantifero.proofs.Says.{says-words}
-use Rattle.kantifero.proofs.Bounds.{write-place}
+use Rattle.kantifero_calls.proofs.Says.{says-words}
+use Rattle.kantifero_calls.proofs.Bounds.{write-place}
 use lib.ListN.{length}
 use mathlib.Core.Path.{_∙_}
 use Rattle.kantifero.proofs.kantifero_write.Statement.{statement}

@@ -1,7 +1,7 @@
 -- `kantifero_words::part_words` meets its contract: no words, right's, or left's.
 use native.Mathlib.Omega.{arith}
 use borrow.Author.Needs.{needs}
-use Rattle.kantifero_words.specs.Carried.{partWords}
+use Rattle.kantifero_calls.specs.Carried.{partWords}
 use borrow.Author.Tests.{eq-eqb, ne-eqb}
 use mathlib.Core.Path.{_∙_}
 use Rattle.kantifero_words.proofs.part_words.Statement.{statement}

@@ -1,6 +1,6 @@
 -- `kantifero_words::profile_of` meets its contract: case by case.
 use borrow.Author.Tests.{eq-eqb, ne-eqb}
-use Rattle.kantifero_words.specs.Words.{profileOf}
+use Rattle.kantifero_calls.specs.Words.{profileOf}
 use Rattle.kantifero_words.proofs.profile_of.Statement.{statement}
 use Rattle.kantifero_words.proofs.profile_of.Tie as tie
 

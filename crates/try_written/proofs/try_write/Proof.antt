@@ -1,9 +1,9 @@
--- `try_fold_text::try_write` is safe: the table is within its words.
+-- `try_written::try_write` is safe: the table is within its words.
 use lib.ListN.{length-take}
 use native.Mathlib.Omega.{arith}
 use borrow.Author.Needs.{needs}
-use Rattle.try_fold_text.proofs.try_write.Statement.{statement}
-use Rattle.try_fold_text.proofs.try_write.Tie as tie
+use Rattle.try_written.proofs.try_write.Statement.{statement}
+use Rattle.try_written.proofs.try_write.Tie as tie
 
 pub try-write-spec : {M : Type 1} → statement M
 try-write-spec =

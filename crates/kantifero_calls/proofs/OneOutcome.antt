@@ -5,8 +5,8 @@ use Prim.Native.Nat.{ℕ}
 use Rattle.tree.specs.Name.{Name}
 use Rattle.tree.specs.declared.Profile.{Profile}
 use Rattle.plan_run.specs.Run.{Lent}
-use Rattle.kantifero.specs.Calls.{ReconcileCall, MoveCall, WriteCall, ReadCall}
-use Rattle.kantifero_words.specs.Carried.{CarriedCall}
+use Rattle.kantifero_calls.specs.Calls.{ReconcileCall, MoveCall, WriteCall, ReadCall}
+use Rattle.kantifero_calls.specs.Carried.{CarriedCall}
 
 pub reconcile-one : (p : Profile) (o l r : List ℕ) (before : Lent) (a b c d t w a′ b′ c′ d′ t′ w′ : List ℕ) → ReconcileCall p o l r before a b c d t w → ReconcileCall p o l r before a′ b′ c′ d′ t′ w′
     → (a ≡ a′) × (b ≡ b′) × (c ≡ c′) × (d ≡ d′) × (t ≡ t′) × (w ≡ w′)

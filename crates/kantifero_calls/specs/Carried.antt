@@ -7,7 +7,7 @@ use lib.ListN.{length, take, drop, getD}
 use Prim.Native.Nat.{ℕ, _*_, _<_}
 use Rattle.tree.specs.declared.Profile.{Profile}
 use Rattle.table_carry.specs.Carried.{carriedRows}
-use Rattle.kantifero_words.specs.Words.{eight}
+use Rattle.kantifero_calls.specs.Words.{eight}
 
 -- n words for an entry: none; or of right (3) where left gets, of left (2) where right gets, from the entry's source row on
 unfoldable pub partWords : ℕ → ℕ → ℕ → ℕ → List ℕ

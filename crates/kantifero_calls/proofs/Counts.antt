@@ -25,8 +25,8 @@ use Rattle.plan.proofs.Bound.{lines-bound}
 use Rattle.plan_run.specs.Answer.{answerWith}
 use Rattle.plan_run.specs.Run.{given, Lent, countsOf, twinsOf, tablesDue, roomsDue, runDue, runOf}
 use Rattle.plan_run.proofs.Accepted.{Passed, passed}
-use Rattle.kantifero_words.specs.Words.{Narrow}
-use Rattle.kantifero.proofs.Bounds.{refusal-place, twins-place, unless-place, first-place, last-place}
+use Rattle.kantifero_calls.specs.Words.{Narrow}
+use Rattle.kantifero_calls.proofs.Bounds.{refusal-place, twins-place, unless-place, first-place, last-place}
 
 module _ (p : Profile) (o l r : List ℕ) (b : Lent) where
   tables-place : placeOf (tablesDue p o l r) ≤ 4096

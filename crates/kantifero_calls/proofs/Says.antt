@@ -10,8 +10,8 @@ use Rattle.table_rules.specs.Answer.{Says}
 use Rattle.plan_tally.specs.declared.Tally.{Tally}
 use Rattle.plan_run.specs.declared.Reconciled.{Reconciled}
 use Rattle.plan_run.specs.Run.{Lent, lent, ReconcileContract}
-use Rattle.kantifero_words.specs.Words.{eight, answerWords, reconciledWords, tallyWords, tallyIn}
-use Rattle.kantifero.specs.Calls.{ReconcileCall}
+use Rattle.kantifero_calls.specs.Words.{eight, answerWords, reconciledWords, tallyWords, tallyIn}
+use Rattle.kantifero_calls.specs.Calls.{ReconcileCall}
 
 pub says-words : (a : Answer) (number side place : ℕ) → Says a number side place → answerWords a ≡ eight number side place
 says-words a number side place s = rw (s .number-due, s .side-due, s .place-due)

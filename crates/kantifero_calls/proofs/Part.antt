@@ -13,7 +13,7 @@ use Rattle.table_rules.proofs.Passed.{passed-words}
 use Rattle.table_find.specs.Subtree.{subtree, endOf}
 use Rattle.table_carry.specs.Carried.{passes, carriedRows}
 use Rattle.table_carry.proofs.Checks.{both-pass}
-use Rattle.kantifero_words.specs.Carried.{partWords, Within, tableOn}
+use Rattle.kantifero_calls.specs.Carried.{partWords, Within, tableOn}
 
 take-own : (k : ℕ) (w : List ℕ) → take (length (take k w)) w ≡ take k w
 take-own zero w = refl

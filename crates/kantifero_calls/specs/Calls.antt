@@ -15,7 +15,7 @@ use Rattle.listing.specs.Writing.{textOf}
 use Rattle.listing.specs.Reading.{answerOf, reading}
 use Rattle.listing_read_lines.specs.Contract.{tableAfter}
 use Rattle.listing_write.specs.Contract.{answerDue}
-use Rattle.kantifero_words.specs.Words.{eight, answerWords, reconciledWords, tallyWords}
+use Rattle.kantifero_calls.specs.Words.{eight, answerWords, reconciledWords, tallyWords}
 
 -- a reconciliation; before is what was lent, with the three words of the tally read as one
 pub record ReconcileCall (p : Profile) (o l r : List ℕ) (before : Lent) (archive left right list tally answer : List ℕ) : Type 0 where

@@ -1,0 +1,1 @@
+// Definitions and proofs alone: this crate has no code.
