@@ -31,7 +31,7 @@ fn tell_rows(profile: Profile, table: &[u32], rows: usize) {
 
 // A text read into a table, which is marked.
 fn tell_read(profile: Profile, text: &[u8], table: &mut [u32]) {
-    let rows = try_show::print_answer(listing_read::read(profile, text, table));
+    let rows = try_reading::tell_read(profile, text, table);
     tell_rows(profile, table, rows);
 }
 

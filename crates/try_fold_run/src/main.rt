@@ -2,8 +2,8 @@
 // counts and where letter case is ignored: number, side, place and counts, the tally, the list's words, and for each result its
 // rows, their sum, and how many words past them are kept. A line that begins with # is a heading. Tables are as
 // `try_spelled_rows` says.
-//   run ARCHIVE LEFT RIGHT                        with room for more than 4,096 rows
-//   short ARCHIVE LEFT RIGHT ROOM ROOM ROOM ROOM  the rooms are words, of archive, left, right and list
+//   run ARCHIVE LEFT RIGHT [ROOM ROOM ROOM ROOM]  the rooms are words, of archive, left, right and list; with none given there
+//                                                 is room for more than 4,096 rows
 use libc::STDIN_FILENO;
 use tree::Profile;
 

@@ -12,9 +12,8 @@ ghost use lib.ListN.{length};
 fn tell(line: &[u8], text: &[u8], table: &mut [u32]) {
     let n = table.len();
     try_rows::set_words(table, 0, n, try_show::CANARY);
-    let answer = listing_read::read(Profile::Exact, text, table);
     try_show::print_case(line);
-    let rows = try_show::print_answer(answer);
+    let rows = try_reading::tell_read(Profile::Exact, text, table);
     try_read_rows::tell_rows(table, rows);
 }
 

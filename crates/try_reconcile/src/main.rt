@@ -3,6 +3,7 @@
 // their sum, and how many words past them are kept.
 //   CASE ARCHIVE LEFT RIGHT ROOM ROOM ROOM ROOM      the rooms are words, of archive, left, right and list
 use libc::STDIN_FILENO;
+use tree::Profile;
 
 // A run with buffers of its own.
 fn try_run(line: &[u8], o: &[u32], l: &[u32], r: &[u32]) {
@@ -10,7 +11,8 @@ fn try_run(line: &[u8], o: &[u32], l: &[u32], r: &[u32]) {
     let mut left = [try_show::CANARY; 200];
     let mut right = [try_show::CANARY; 200];
     let mut list = [try_show::CANARY; 30];
-    try_run::tell_run(
+    let n = try_run::tell_run(
+        Profile::Exact,
         line,
         o,
         l,
@@ -20,6 +22,8 @@ fn try_run(line: &[u8], o: &[u32], l: &[u32], r: &[u32]) {
         &mut right,
         &mut list,
     );
+    try_show_rows::print_results(&archive, n.archive, &left, n.left, &right, n.right);
+    try_show::print(b"\n");
 }
 
 // The tables of a line, and a run on them.

@@ -9,7 +9,7 @@ fn run_in(profile: Profile, line: &[u8], o: &mut [u32], l: &mut [u32], r: &mut [
     try_run_in::run_on(profile, line, &o[..a], &l[..b], &r[..c]);
 }
 
-// A line `run` or `short`.
+// A line `run`.
 pub fn try_run(profile: Profile, line: &[u8]) {
     let mut o = [0u32; 81980];
     let mut l = [0u32; 81980];

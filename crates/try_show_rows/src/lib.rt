@@ -57,6 +57,20 @@ pub fn print_result(result: &[u32], rows: usize) {
     try_show::print_number(try_show::kept(&result[a..]));
 }
 
+// The three new tables of a reconciliation, each with its rows.
+pub fn print_results(
+    archive: &[u32],
+    archive_rows: usize,
+    left: &[u32],
+    left_rows: usize,
+    right: &[u32],
+    right_rows: usize,
+) {
+    print_result(archive, archive_rows);
+    print_result(left, left_rows);
+    print_result(right, right_rows);
+}
+
 // A byte of a name: itself, or its two digits after %.
 pub fn print_letter(b: u8) {
     match b {

@@ -1,6 +1,6 @@
 -- `try_run::tell_run` is safe: the rooms are within the buffers.
-use native.Mathlib.Omega.{arith}
 use lib.ListN.{length-take}
+use native.Mathlib.Omega.{arith}
 use borrow.Author.Needs.{needs}
 use Rattle.try_run.proofs.tell_run.Statement.{statement}
 use Rattle.try_run.proofs.tell_run.Tie as tie
@@ -23,11 +23,6 @@ tell-run-spec =
     (λ c. simp length-take (omega arith))
     (λ c κs. search needs)
     (λ c κs. search needs)
-    (λ c κs. search needs)
-    (λ c κs. search needs)
-    (λ c κs. search needs)
-    (λ c κs. search needs)
-    (λ c. search needs)
     (λ c κs. search needs)
     (λ c. search needs)
     (λ c. search needs)
