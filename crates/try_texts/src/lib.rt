@@ -1,4 +1,4 @@
-// Listings as text, made from a line, for the program that tries the reading of them. A line has fields parted by spaces:
+// Listings as text, made from a line, for the programs that try the reading of them. A line has fields parted by spaces:
 //   text WORDS TEXT         a text: | is a line end, %HH a byte, $ a keyword with a digest
 //   pad WORDS BYTES TEXT    the same, brought to a length by a comment
 //   many WORDS COUNT STEP   folders in a root, in an order that the step gives
