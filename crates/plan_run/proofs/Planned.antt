@@ -25,7 +25,7 @@ use mir.Syntax.{w32}
 use mir.Val.{Fits}
 use Rattle.table_row.proofs.Tree.{length-table}
 use Rattle.table_rules.proofs.Small.{small-all}
-use Rattle.table_rules.proofs.Passed.{passed-whole, passed-words, passed-rows, passed-formed, passed-most}
+use Rattle.table_rules.proofs.Passed.{passed-whole, passed-words, passed-rows, passed-length, passed-formed}
 use Rattle.settle.proofs.Spelled.{formed-left, formed-right, formed-archive}
 use Rattle.plan.proofs.Keyed.{IsTableIn, settled-keyed}
 use Rattle.plan.proofs.Bound.{plan-length, plan-bound}
@@ -33,7 +33,7 @@ use Rattle.plan_results.proofs.Read.{decisions-over}
 use Rattle.plan_results.proofs.Whole.{list-words}
 use Rattle.plan_results.proofs.Named.{new-table-in}
 use Rattle.plan_run.specs.Run.{given, countsOf}
-use Rattle.plan_run.specs.Steps.{Words, plannedWords, plannedCounts}
+use Rattle.plan_run.specs.Steps.{Words, rowsOf, plannedWords, plannedCounts}
 
 -- a table that keeps the rules of the profile, whose words are of 32 bits
 pub record Sound (p : Profile) (w : List ℕ) : Type 0 where
@@ -93,14 +93,15 @@ module _ (p : Profile) where
     long : length (settled (keyed p o) (keyed p l) (keyed p r)) ≡ 4 * count
     long = ap length words ∙ plan-length O L R
 
-    most : count ≤ 12285
+    -- no more items than rows
+    most : count ≤ rowsOf o l r
     most =
         let b = plan-bound O L R (formed o so .sorted) (formed l sl .sorted) (formed r sr .sorted) in
         let x = size-fold p (treeOf o) in let y = size-fold p (treeOf l) in let z = size-fold p (treeOf r) in
-        omega (arith, plan-length O L R, passed-most p o (so .passes), passed-most p l (sl .passes), passed-most p r (sr .passes))
+        omega (arith, plan-length O L R, passed-length p o (so .passes), passed-length p l (sl .passes), passed-length p r (sr .passes))
 
-    -- the scratch array is long enough
-    pub settled-fits : length (settled (keyed p o) (keyed p l) (keyed p r)) ≤ 49152
+    -- a scratch array of four words for each row is long enough
+    pub settled-fits : length (settled (keyed p o) (keyed p l) (keyed p r)) ≤ 4 * rowsOf o l r
     settled-fits = omega (arith, long, most)
 
     newIn : Tree → Forest
@@ -118,8 +119,11 @@ module _ (p : Profile) where
       items-are : q / 4 ≡ count
       items-are = omega (arith, f .count, long)
 
-      pub items-most : q / 4 ≤ 12285
-      items-most = omega (arith, items-are, most)
+      pub items-fit : q / 4 ≤ rowsOf o l r
+      items-fit = omega (arith, items-are, most)
+
+      pub items-most : q / 4 ≤ 12288
+      items-most = omega (arith, items-fit, passed-words p o (so .passes), passed-words p l (sl .passes), passed-words p r (sr .passes))
 
       read : decisions (q / 4) e ≡ decisions count (planWords O L R)
       read = rw (items-are, f .words) (decisions-over count b (settled (keyed p o) (keyed p l) (keyed p r)) (omega (arith, long)) ∙ ap (decisions count) words)

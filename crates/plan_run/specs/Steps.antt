@@ -3,7 +3,7 @@ use mathlib.Core.Path.{_≡_}
 use mathlib.Core.List.{List}
 use mathlib.Core.Bool.{cond}
 use lib.ListN.{length}
-use Prim.Native.Nat.{ℕ, zero, suc, _/_, _≤_}
+use Prim.Native.Nat.{ℕ, zero, suc, _+_, _/_, _≤_}
 use Rattle.tree.specs.declared.Profile.{Profile}
 use Rattle.tree.specs.declared.Profile.the-variants.{Folded}
 use Rattle.table_row.specs.Buffer.{over}
@@ -24,6 +24,10 @@ use Rattle.plan_run.specs.Run.{given, Lent, countsOf, roomDue, filled}
 unfoldable pub settledAfter : ℕ → List ℕ → List ℕ → List ℕ → List ℕ
 settledAfter zero o l r = settled l r (keyed Folded o)
 settledAfter (suc n) o l r = settledAfter n l r (keyed Folded o)
+
+-- the rows of three tables
+abbrev pub rowsOf : List ℕ → List ℕ → List ℕ → ℕ
+rowsOf o l r = length o / 20 + length l / 20 + length r / 20
 
 -- the words of the new archive, left and right, and of the list
 pub record Words : Type 0 where

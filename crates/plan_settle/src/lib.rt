@@ -8,14 +8,40 @@ ghost use Rattle.plan.specs.Writes.{Fills};
 ghost use Rattle.plan_run.specs.Steps.{settledAfter};
 
 // The plan of three tables of which the first is to be keyed, and n more after it, at the start of a buffer; how many words
-// it has. Each call has one table's keys, so that a run that needs none has no room for them.
+// it has. The keys are made in one of three sizes, since zeroing the largest would be most of the time of small tables. Each
+// call has one table's keys, so that a run that needs none has no room for them.
 fn settle_keyed(n: usize, o: &[u32], l: &[u32], r: &[u32], plan: &mut [u32]) -> usize
     requires { ⌜ Three (now o) (now l) (now r) ⌝ }
     requires { ⌜ length (settledAfter n (now o) (now l) (now r)) ≤ length (now plan) ⌝ }
     ensures { λ q. ⌜ Fills (now (plan .entry)) (settledAfter n (now (o .entry)) (now (l .entry)) (now (r .entry))) (now (plan .exit)) q ⌝ }
 {
+    if o.len() <= 1280 {
+        let mut keys = [0u32; 1280];
+        return settle_with(n, o, l, r, &mut keys, plan);
+    }
+    if o.len() <= 10240 {
+        let mut keys = [0u32; 10240];
+        return settle_with(n, o, l, r, &mut keys, plan);
+    }
     let mut keys = [0u32; 81920];
-    table_keys::key_table(o, &mut keys);
+    settle_with(n, o, l, r, &mut keys, plan)
+}
+
+// The same with room for the first table's keys.
+fn settle_with(
+    n: usize,
+    o: &[u32],
+    l: &[u32],
+    r: &[u32],
+    keys: &mut [u32],
+    plan: &mut [u32],
+) -> usize
+    requires { ⌜ Three (now o) (now l) (now r) ⌝ }
+    requires { ⌜ length (now o) ≤ length (now keys) ⌝ }
+    requires { ⌜ length (settledAfter n (now o) (now l) (now r)) ≤ length (now plan) ⌝ }
+    ensures { λ q. ⌜ Fills (now (plan .entry)) (settledAfter n (now (o .entry)) (now (l .entry)) (now (r .entry))) (now (plan .exit)) q ⌝ }
+{
+    table_keys::key_table(o, keys);
     let e = o.len();
     if n == 0 {
         return plan_write::settle(l, r, &keys[..e], plan);

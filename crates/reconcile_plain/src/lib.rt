@@ -26,8 +26,7 @@ pub fn reconcile_plain(
     let due = plan_due::tables_due(profile, o, l, r);
     match due {
         Answer::Accepted { place: _ } => {
-            let mut plan = [0u32; 49152];
-            plan_carry_out::with_plan(profile, o, l, r, archive, left, right, list, old, &mut plan)
+            plan_carry_out::carry_out(profile, o, l, r, archive, left, right, list, old)
         }
         Answer::Refused {
             number: _,

@@ -3,7 +3,7 @@ use native.Mathlib.Omega.{arith}
 use borrow.Author.Needs.{needs}
 use Rattle.table_rules.proofs.Passed.{passed-some}
 use Rattle.plan_run.specs.Run.{lent}
-use Rattle.plan_run.proofs.Planned.{Sound, three, settled-fits, items-most}
+use Rattle.plan_run.proofs.Planned.{Sound, three, settled-fits, items-fit, items-most}
 use Rattle.plan_run.proofs.Steps.{Tried, spacious, entries, settles-accepted, settles-refused}
 use Rattle.plan_carry_out.proofs.with_plan.Statement.{statement}
 use Rattle.plan_carry_out.proofs.with_plan.Tie as tie
@@ -50,7 +50,8 @@ counts-of-requires c κs =
     let q = c .before .before .before in
     let w = start q in
     let p = w .before .before .before .pre in
-    let n = items-most _ _ _ _ (o-sound w) (l-sound w) (r-sound w) _ _ _ (q .settle-in .ensures) in
+    let n = items-fit _ _ _ _ (o-sound w) (l-sound w) (r-sound w) _ _ _ (q .settle-in .ensures) in
+    let m = items-most _ _ _ _ (o-sound w) (l-sound w) (r-sound w) _ _ _ (q .settle-in .ensures) in
     (three _ _ _ _ (p .0 .0) (p .0 .1) (p .0 .2), (passed-some _ _ (p .0 .1), (omega (arith, q .settle-in .kept .1 .1 .1 .1 .0, p .1), omega arith)))
 
 write-results-requires : tie.Need-write-results-requires
@@ -58,7 +59,7 @@ write-results-requires c κs =
     let w = c .before .before .before .before .before .before .before in
     let q = w .before .before .before .before .before .before in
     let p = w .before .before .before .before .before .before .before .before .before .before .before .before .before .before .before .before .pre in
-    let n = items-most _ _ _ _ (tried w .o-sound) (tried w .l-sound) (tried w .r-sound) _ _ _ (q .settle-in .ensures) in
+    let n = items-fit _ _ _ _ (tried w .o-sound) (tried w .l-sound) (tried w .r-sound) _ _ _ (q .settle-in .ensures) in
     (three _ _ _ _ (p .0 .0) (p .0 .1) (p .0 .2), (passed-some _ _ (p .0 .1), (omega (arith, q .settle-in .kept .1 .1 .1 .1 .0, p .1), spacious (tried w) _ (c .before .before .before .before .before .enum-told .given .1))))
 
 counts-requires : tie.Need-counts-requires

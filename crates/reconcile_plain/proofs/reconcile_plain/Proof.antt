@@ -1,24 +1,21 @@
 -- `reconcile_plain::reconcile_plain` meets its contract: the tables' faults come first.
 use mathlib.Core.Path.{ap, sym, _∙_}
-use native.Mathlib.Omega.{arith}
-use lib.ListN.{length-replicate}
-use Prim.Native.Nat.{ℕ}
 use borrow.Author.Needs.{needs}
 use Rattle.table_rules.specs.Answer.{isAccepted}
 use Rattle.plan_run.proofs.Steps.{tables-passed, run-settles, run-refused}
 use Rattle.reconcile_plain.proofs.reconcile_plain.Statement.{statement}
 use Rattle.reconcile_plain.proofs.reconcile_plain.Tie as tie
 
-with-plan-requires : tie.Need-with-plan-requires
-with-plan-requires c κs =
-    let t = c .before .before .before .before .before in
-    (tables-passed _ _ _ _ (ap isAccepted (sym (t .before .before .tables-due .ensures) ∙ t .enum-told .given .1)), omega (arith, length-replicate {A = ℕ} 49152 0))
+carry-out-requires : tie.Need-carry-out-requires
+carry-out-requires c κs =
+    let t = c .before .before .before .before in
+    tables-passed _ _ _ _ (ap isAccepted (sym (t .before .before .tables-due .ensures) ∙ t .enum-told .given .1))
 
 returns : tie.Need-returns
 returns c =
-    let w = c .before .before .before .before .before .before .before .before .before in
-    let t = w .before .before .before .before .before .before in
-    run-settles _ _ _ _ _ _ (t .before .before .tables-due .ensures) _ (t .enum-told .given .1) (w .with-plan .ensures)
+    let w = c .before .before .before .before .before .before .before .before in
+    let t = w .before .before .before .before .before in
+    run-settles _ _ _ _ _ _ (t .before .before .tables-due .ensures) _ (t .enum-told .given .1) (w .carry-out .ensures)
 
 returns-2 : tie.Need-returns-2
 returns-2 c =
@@ -31,8 +28,7 @@ reconcile-plain-spec =
     (tie.spec
     (λ c κs. search needs)
     (λ c. search needs)
-    (λ c. search needs)
-    with-plan-requires
+    carry-out-requires
     (λ c. search needs)
     (λ c κs. search needs)
     (λ c. search needs)
