@@ -5,11 +5,14 @@ use table_rules::Fit;
 use table_rules::Seen;
 use tree::Profile;
 ghost use mathlib.Core.Path.{_≡_};
+ghost use mathlib.Core.Bool.{true};
 ghost use Prim.Native.Nat.{_+_, _-_, _*_, _≤_, _<_};
 ghost use lib.ListN.{length};
+ghost use Rattle.tree.specs.Rules.{zeros};
 ghost use Rattle.table_row.specs.Table.{rowAt};
 ghost use Rattle.table_rules.specs.Rules.{before, sized};
 ghost use Rattle.table_rules.specs.Seen.{fitAfter, fitOf, orRow, SeesRows, Sees};
+ghost use Rattle.table_check.specs.Last.{Lasts, lastsAfter};
 
 // How a row follows a sibling that stands so to it.
 fn fit_after(profile: Profile, o: Order) -> Fit
@@ -25,29 +28,31 @@ fn fit_after(profile: Profile, o: Order) -> Fit
     }
 }
 
-// How row i follows the rows before it.
-fn row_fit(profile: Profile, t: &[u32], i: usize) -> Fit
-    requires { ⌜ 20 * i + 20 ≤ length (now t) ⌝ }
+// How row i follows the rows before it, of which last has the one that it would come after.
+fn row_fit(profile: Profile, t: &[u32], i: usize, last: &[usize; 18]) -> Fit
+    requires { ⌜ (20 * i + 20 ≤ length (now t)) × (0 < i) ⌝ }
+    requires { ⌜ Lasts profile (now t) i (now last) ⌝ }
     ensures { λ r. ⌜ r ≡ fitOf profile (before (now (t .entry)) i) (rowAt (now (t .entry)) i) ⌝ }
 {
-    let a = 20 * i;
-    let b = a + 20;
-    if i == 0 {
-        if table_names::all_zero(&t[a..b]) {
-            return Fit::Good;
-        }
-        return Fit::Bad;
-    }
-    let p = a + 2;
-    let q = p + 8;
     if table_row_rules::depth_ok(t, i) {
-        if table_names::good_name(&t[p..q]) {
+        if table_row_rules::name_ok(t, i) {
             if table_row_rules::kind_ok(t, i) {
-                return fit_after(profile, table_row_rules::sibling(profile, t, i));
+                let d = table_row::wide(table_row::word(t, i, 0));
+                let s = last[d];
+                return fit_after(profile, table_row_rules::compare_rows(profile, t, s, i));
             }
         }
     }
     Fit::Bad
+}
+
+// After row i, of depth d: the next row of that depth comes after it, and one deeper is the first of its folder.
+fn remember(last: &mut [usize; 18], d: usize, i: usize)
+    requires { ⌜ d ≤ 16 ⌝ }
+    ensures { λ _. ⌜ now (last .exit) ≡ lastsAfter d i (now (last .entry)) ⌝ }
+{
+    last[d] = i;
+    last[d + 1] = 0;
 }
 
 // What was found, or row i where that is nothing.
@@ -61,15 +66,18 @@ fn or_row(found: Checked, i: usize) -> Checked
     }
 }
 
-// The lowest row that breaks the rules, and the lowest that has the key of the sibling before it.
-fn check_rows(profile: Profile, t: &[u32]) -> Seen
+// The lowest row that breaks the rules, and the lowest that has the key of the sibling before it, after a first row of zeros. For
+// each depth, last has the row that the next one of it comes after, or row 0, whose name is less than any, where there is none.
+fn check_entries(profile: Profile, t: &[u32]) -> Seen
+    requires { ⌜ (20 ≤ length (now t)) × (zeros (rowAt (now t) 0) ≡ true) ⌝ }
     ensures { λ r. ⌜ SeesRows profile (now (t .entry)) r ⌝ }
 {
     let n = t.len() / 20;
+    let mut last = [0usize; 18];
     let mut twins = Checked::Fine;
-    let mut i = 0;
+    let mut i = 1;
     while i < n {
-        match row_fit(profile, t, i) {
+        match row_fit(profile, t, i, &last) {
             Fit::Good => {}
             Fit::Twin => twins = or_row(twins, i),
             Fit::Bad => {
@@ -77,10 +85,25 @@ fn check_rows(profile: Profile, t: &[u32]) -> Seen
                 return Seen { rows, twins };
             }
         }
+        remember(&mut last, table_row::wide(table_row::word(t, i, 0)), i);
         i += 1;
     }
     let rows = Checked::Fine;
     Seen { rows, twins }
+}
+
+// The same of all rows.
+fn check_rows(profile: Profile, t: &[u32]) -> Seen
+    requires { ⌜ 20 ≤ length (now t) ⌝ }
+    ensures { λ r. ⌜ SeesRows profile (now (t .entry)) r ⌝ }
+{
+    if table_names::all_zero(&t[..20]) {
+        return check_entries(profile, t);
+    }
+    Seen {
+        rows: Checked::BadRow(0),
+        twins: Checked::Fine,
+    }
 }
 
 // Whether a table is 20 words times 1 to 4,096.

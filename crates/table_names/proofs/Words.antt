@@ -5,9 +5,9 @@ use mathlib.Core.Bool.{Bool, true, false, cond, false≢true}
 use native.Mathlib.Omega.{arith}
 use native.Mathlib.Nat.{not-suc-le-zero}
 use native.Mathlib.Numerals.{add-one}
-use lib.ListN.{length, drop, getD, drop-of-length-le}
-use lib.Seq.{drop-cons}
-use Prim.Native.Nat.{ℕ, zero, suc, _+_, _*_, _/_, _%_, _≤_, _<_}
+use lib.ListN.{length, take, drop, getD, length-drop, drop-of-length-le}
+use lib.Seq.{drop-cons, take-all}
+use Prim.Native.Nat.{ℕ, zero, suc, _+_, _-_, _*_, _/_, _%_, _≤_, _<_}
 use lib.Dec.{eqb}
 use borrow.Author.Tests.{eq-eqb, eqb-true, ne-eqb}
 use Rattle.tree.specs.Rules.{zeros, bytes, zeroFilled}
@@ -42,6 +42,10 @@ module _ (s : List ℕ) (k : ℕ) where
   unfolding zeroFilled
   filled-end h = rw (drop-of-length-le s h)
 
+-- a part that goes to the end is what is left
+pub rest-is : (s : List ℕ) (k : ℕ) → take (length s - k) (drop k s) ≡ drop k s
+rest-is s k = take-all (length s - k) (drop k s) (omega (arith, length-drop k s))
+
 -- byte k is byte k % 4 of word k / 4
 pub byte-is : (w : List ℕ) (k : ℕ) → k < 4 * length w → getD (bytes (getD w (k / 4) 0 ∷ [])) (k % 4) 0 ≡ getD (bytes w) k 0
 unfolding bytes
@@ -56,7 +60,7 @@ byte-is (x ∷ xs) (suc (suc (suc (suc k)))) h =
     rw (e, f) (byte-is xs k (omega arith))
 
 -- some bytes l before others: zeros, where a number v is 0 exactly where those bytes are
-zero-head : (x : ℕ) (l : List ℕ) → zeros (x ∷ l) ≡ true → (x ≡ 0) × (zeros l ≡ true)
+pub zero-head : (x : ℕ) (l : List ℕ) → zeros (x ∷ l) ≡ true → (x ≡ 0) × (zeros l ≡ true)
 unfolding zeros
 zero-head x l h = go (eqb x 0) refl h
   where
@@ -106,19 +110,19 @@ module _ (x : ℕ) (t : List ℕ) where
   four-zero : zeros (a ∷ b ∷ c ∷ d ∷ []) ≡ true → x ≡ 0
   four-zero h = let p = zero-head a (b ∷ c ∷ d ∷ []) h in let e = p .0 in let q = three-zero (p .1) in omega arith
 
-  zero-last : x % 256 ≡ 0 → zeros (d ∷ []) ≡ true
+  pub zero-last : x % 256 ≡ 0 → zeros (d ∷ []) ≡ true
   unfolding zeros
   zero-last h = rw (eq-eqb d 0 h)
 
-  zero-two : x % 65536 ≡ 0 → zeros (c ∷ d ∷ []) ≡ true
+  pub zero-two : x % 65536 ≡ 0 → zeros (c ∷ d ∷ []) ≡ true
   unfolding zeros
   zero-two h = rw (eq-eqb c 0 (omega arith)) (zero-last (omega arith))
 
-  zero-three : x % 16777216 ≡ 0 → zeros (b ∷ c ∷ d ∷ []) ≡ true
+  pub zero-three : x % 16777216 ≡ 0 → zeros (b ∷ c ∷ d ∷ []) ≡ true
   unfolding zeros
   zero-three h = rw (eq-eqb b 0 (omega arith)) (zero-two (omega arith))
 
-  zero-four : x ≡ 0 → zeros (a ∷ b ∷ c ∷ d ∷ []) ≡ true
+  pub zero-four : x ≡ 0 → zeros (a ∷ b ∷ c ∷ d ∷ []) ≡ true
   unfolding zeros
   zero-four h = rw (eq-eqb a 0 (omega arith)) (zero-three (omega arith))
 
@@ -134,7 +138,7 @@ module _ (x : ℕ) (t : List ℕ) where
   pub from-fourth : zeros (d ∷ t) ≡ cond (eqb (x % 256) 0) (zeros t) false
   from-fourth = zeros-by (x % 256) (d ∷ []) t zero-last last-zero
 
-zeros-words : (w : List ℕ) → zeros (bytes w) ≡ zeros w
+pub zeros-words : (w : List ℕ) → zeros (bytes w) ≡ zeros w
 unfolding bytes zeros
 zeros-words [] = refl
 zeros-words (x ∷ xs) = from-word x (bytes xs) ∙ rw (zeros-words xs)

@@ -1,2 +1,3 @@
--- The low bytes of a word.
+-- The low bytes of a word, and words looked at whole.
 pub mod Low
+pub mod Plain

@@ -1,4 +1,4 @@
-// What is asked of a row and the rows before it: depth, kind, and the order of siblings.
+// What is asked of a row beside those before it: depth, name, kind, and the order of two rows.
 use table_row::Order;
 use tree::Profile;
 ghost use mathlib.Core.Path.{_≡_};
@@ -6,10 +6,10 @@ ghost use Prim.Native.Nat.{_+_, _-_, _*_, _≤_, _<_};
 ghost use lib.ListN.{length};
 ghost use Rattle.tree.specs.Name.{cmp};
 ghost use Rattle.tree.specs.Key.{key};
+ghost use Rattle.tree.specs.Rules.{goodName};
 ghost use Rattle.table_row.specs.Order.{ordered};
-ghost use Rattle.table_row.specs.Table.{rowAt, name, depth};
-ghost use Rattle.table_rules.specs.Rules.{before, depthRule, kindRule};
-ghost use Rattle.table_rules.specs.Keyed.{sibling as siblingOf};
+ghost use Rattle.table_row.specs.Table.{rowAt, name};
+ghost use Rattle.table_rules.specs.Rules.{depthRule, kindRule};
 
 // Whether row i is not too deep, for any row and for the row before it.
 pub fn depth_ok(t: &[u32], i: usize) -> bool
@@ -28,6 +28,19 @@ pub fn depth_ok(t: &[u32], i: usize) -> bool
     if k == 0 { d - 1 <= e } else { d <= e }
 }
 
+// Whether row i has a name that an entry may have.
+pub fn name_ok(t: &[u32], i: usize) -> bool
+    requires { ⌜ 20 * i + 20 ≤ length (now t) ⌝ }
+    ensures { λ r. ⌜ r ≡ goodName (name (rowAt (now (t .entry)) i)) ⌝ }
+{
+    let p = 20 * i + 2;
+    let q = p + 8;
+    if table_names::short_name(&t[p..q]) {
+        return true;
+    }
+    table_names::good_name(&t[p..q])
+}
+
 // Whether row i is a file's, or a folder's with no size and no digest.
 pub fn kind_ok(t: &[u32], i: usize) -> bool
     requires { ⌜ 20 * i + 20 ≤ length (now t) ⌝ }
@@ -43,7 +56,7 @@ pub fn kind_ok(t: &[u32], i: usize) -> bool
 }
 
 // The order of the names of rows i and j by their keys.
-fn compare_rows(profile: Profile, t: &[u32], i: usize, j: usize) -> Order
+pub fn compare_rows(profile: Profile, t: &[u32], i: usize, j: usize) -> Order
     requires { ⌜ (20 * i + 20 ≤ length (now t)) × (20 * j + 20 ≤ length (now t)) ⌝ }
     ensures { λ r. ⌜ r ≡ ordered (cmp (key profile (name (rowAt (now (t .entry)) i))) (key profile (name (rowAt (now (t .entry)) j)))) ⌝ }
 {
@@ -52,24 +65,4 @@ fn compare_rows(profile: Profile, t: &[u32], i: usize, j: usize) -> Order
     let q = 20 * j + 2;
     let qe = q + 8;
     table_compare::compare_keys(profile, &t[p..pe], &t[q..qe])
-}
-
-// How the sibling before row i stands to it, by their keys; less where there is none.
-pub fn sibling(profile: Profile, t: &[u32], i: usize) -> Order
-    requires { ⌜ 20 * i + 20 ≤ length (now t) ⌝ }
-    ensures { λ r. ⌜ r ≡ siblingOf profile (depth (rowAt (now (t .entry)) i)) (name (rowAt (now (t .entry)) i)) (before (now (t .entry)) i) ⌝ }
-{
-    let d = table_row::word(t, i, 0);
-    let mut j = i;
-    while 0 < j {
-        let e = table_row::word(t, j - 1, 0);
-        if e < d {
-            return Order::Less;
-        }
-        if e == d {
-            return compare_rows(profile, t, j - 1, i);
-        }
-        j -= 1;
-    }
-    Order::Less
 }

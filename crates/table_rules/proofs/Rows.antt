@@ -9,16 +9,12 @@ use lib.Dec.{leb}
 use lib.ListN.{length, drop}
 use Prim.Native.Nat.{ℕ, zero, suc, _+_, _-_, _/_, _%_, _≤_, _<_}
 use borrow.Author.Tests.{eq-eqb, ne-eqb, lt-ltb, le-ltb, le-leb, lt-leb, leb-true, leb-false}
-use Rattle.tree.specs.Name.{cmp}
 use Rattle.tree.specs.declared.Profile.{Profile}
 use Rattle.tree.specs.declared.Profile.the-variants.{Exact, Folded}
-use Rattle.tree.specs.Key.{key}
 use Rattle.tree.specs.Rules.{zeros, goodName}
 use Rattle.table_row.specs.Table.{Row, rowAt, rows, depth, kind, name}
-use Rattle.table_row.specs.Order.{ordered}
 use Rattle.table_row.specs.declared.Order.{Order}
 use Rattle.table_row.specs.declared.Order.the-variants.{Less, Same, Greater}
-use Rattle.tree.proofs.Order.{compare-refl, compare-below, compare-above}
 use Rattle.tree.proofs.Never.{never}
 use Rattle.table_row.proofs.Table.{rows-cons, rows-nil}
 use Rattle.table_rules.specs.Rules.{depthRule, kindRule, sized, before}
@@ -49,34 +45,6 @@ module _ (p r : Row) {d e k : ℕ} (D : d ≡ depth r) (E : e ≡ depth p) (K : 
 -- how the sibling before row i stands to it
 abbrev pub siblingAt : Profile → List ℕ → ℕ → Order
 siblingAt p w i = sibling p (depth (rowAt w i)) (name (rowAt w i)) (before w i)
-
--- that sibling, of depth d, is yet to be found before row j
-abbrev pub Sought : Profile → List ℕ → ℕ → ℕ → ℕ → Type 0
-Sought p w i d j = siblingAt p w i ≡ sibling p d (name (rowAt w i)) (before w j)
-
-module _ (p : Profile) (w : List ℕ) (i d : ℕ) where
-  pub sought-none : (j : ℕ) → Sought p w i d j → j ≤ 0 → Less ≡ siblingAt p w i
-  unfolding sibling before
-  sought-none zero s h = sym s
-  sought-none (suc j) s h = absurd (not-suc-le-zero h)
-
-  pub sought-folder : (j : ℕ) → Sought p w i d j → 0 < j → depth (rowAt w (j - 1)) < d → Less ≡ siblingAt p w i
-  unfolding sibling before
-  sought-folder zero s h e = absurd (not-suc-le-zero h)
-  sought-folder (suc j) s h e = sym (s ∙ rw (compare-below (depth (rowAt w j)) d (rw sub-one at e)))
-
-  pub sought-sibling : (j : ℕ) → Sought p w i d j → 0 < j → depth (rowAt w (j - 1)) ≡ d
-      → ordered (cmp (key p (name (rowAt w (j - 1)))) (key p (name (rowAt w i)))) ≡ siblingAt p w i
-  unfolding sibling before
-  sought-sibling zero s h e = absurd (not-suc-le-zero h)
-  sought-sibling (suc j) s h e =
-      let g : depth (rowAt w j) ≡ d = rw sub-one at e in
-      sym (s ∙ rw (g, compare-refl, sub-one))
-
-  pub sought-deeper : (j : ℕ) → Sought p w i d j → 0 < j → d < depth (rowAt w (j - 1)) → Sought p w i d (j - 1)
-  unfolding sibling before
-  sought-deeper zero s h e = absurd (not-suc-le-zero h)
-  sought-deeper (suc j) s h e = s ∙ rw (compare-above (depth (rowAt w j)) d (rw sub-one at e), sub-one)
 
 -- how a row follows those before it: the rules in turn, and then the sibling before
 fit-turns : (p : Profile) (a b c : Bool) (o : Order) → cond (a && b && c && inOrder p o) (cond (not (isSame o)) Good Twin) Bad ≡ cond a (cond b (cond c (fitAfter p o) Bad) Bad) Bad

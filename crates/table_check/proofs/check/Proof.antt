@@ -1,12 +1,18 @@
 -- `table_check::check` meets its contract: the length first, then the rows.
 use mathlib.Core.Path.{_≡_, sym, _∙_}
+use native.Mathlib.Omega.{arith}
 use borrow.Author.Needs.{needs}
 use Rattle.tree.proofs.Never.{never}
 use Rattle.table_rules.specs.declared.Checked.the-variants.{Fine, BadLength}
 use Rattle.table_rules.proofs.Rows.{checked-length, checked-lowest}
-use Rattle.table_rules.proofs.Keyed.{twins-lowest}
+use Rattle.table_rules.proofs.Keyed.{sized-parts, twins-lowest}
 use Rattle.table_check.proofs.check.Statement.{statement}
 use Rattle.table_check.proofs.check.Tie as tie
+
+check-rows-requires : tie.Need-check-rows-requires
+check-rows-requires c κs =
+    let s = c .before in
+    omega (arith, sized-parts (s .before .before .args .profile) (s .before .before .args .t .now) (sym (s .is-sized .ensures) ∙ c .if1 .taken) .some)
 
 returns : tie.Need-returns
 returns c =
@@ -28,4 +34,4 @@ returns-2 c =
     record { seen-rows = sym e; seen-twins = λ f. let n : BadLength ≡ Fine = sym e ∙ f in never (cc) }
 
 pub check-spec : {M : Type 1} → statement M
-check-spec = tie.close (tie.spec (λ c κs. search needs) (λ c κs. search needs) returns returns-2)
+check-spec = tie.close (tie.spec (λ c κs. search needs) check-rows-requires returns returns-2)

@@ -1,7 +1,9 @@
--- `table_names::all_zero` meets its contract: every word up to word k is zero.
-use mathlib.Core.Path.{_≡_, sym, _∙_}
+-- `table_names::all_zero` meets its contract: all words are zero where the flag says so of those before word k, and the rest are.
+use mathlib.Core.Path.{_≡_}
+use mathlib.Core.Logic.{⊎-elim}
+use mathlib.Core.Bool.{_&&_, and-true, and-false}
 use lib.ListN.{length, drop}
-use Prim.Native.Nat.{_-_}
+use Prim.Native.Nat.{_-_, _<_}
 use borrow.Author.Needs.{needs}
 use Rattle.tree.specs.Rules.{zeros}
 use Rattle.table_names.proofs.Words.{zeros-next, zeros-not, zeros-end}
@@ -9,28 +11,27 @@ use Rattle.table_names.proofs.all_zero.Statement.{statement}
 use Rattle.table_names.proofs.all_zero.Tie as tie
 
 abbrev Inv-loop : tie.InvT-loop
-Inv-loop s k₀ k = zeros s ≡ zeros (drop k s)
+Inv-loop s zero₀ k₀ zero k = (zero && zeros (drop k s)) ≡ zeros s
 
 abbrev μ-loop : tie.MeasureT-loop
-μ-loop s k₀ k = length s - k
-
-returns : tie.Need-returns Inv-loop μ-loop
-returns c =
-    let l = c .before .before .before in
-    let a = l .before .args in
-    sym (l .loop .inv ∙ zeros-not (a .s .now) (l .loop .k) (search needs) (c .if1 .taken))
+μ-loop s zero₀ k₀ zero k = length s - k
 
 loop-again : tie.Need-loop-again Inv-loop μ-loop
 loop-again c =
     let l = c .before .before .before in
     let a = l .before .args in
-    l .loop .inv ∙ zeros-next (a .s .now) (l .loop .k) (search needs) (c .if1 .left)
+    let k = l .loop .k in
+    let h : k < length (a .s .now) = search needs in
+    ⊎-elim
+    (λ w. rw (w .1) (rw (zeros-not (a .s .now) k h (w .0 .taken), and-false) at (l .loop .inv)))
+    (λ w. rw (w .1, ← zeros-next (a .s .now) k h (w .0 .left)) (l .loop .inv))
+    (c .if1 .came)
 
-returns-2 : tie.Need-returns-2 Inv-loop μ-loop
-returns-2 c =
+returns : tie.Need-returns Inv-loop μ-loop
+returns c =
     let l = c .before in
     let a = l .before .args in
-    sym (l .loop .inv ∙ zeros-end (a .s .now) (l .loop .k) (search needs))
+    rw (zeros-end (a .s .now) (l .loop .k) (search needs), and-true) at (l .loop .inv)
 
 pub all-zero-spec : {M : Type 1} → statement M
 all-zero-spec =
@@ -41,8 +42,7 @@ all-zero-spec =
     (λ c. search needs)
     (λ c. search needs)
     (λ c. search needs)
-    returns
     (λ c. search needs)
     (λ c. search needs)
     loop-again
-    returns-2)
+    returns)

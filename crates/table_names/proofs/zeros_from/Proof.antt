@@ -1,10 +1,8 @@
 -- `zeros_from` meets its contract: the rest of the word, and the words after it.
-use mathlib.Core.Path.{_≡_, sym, _∙_}
-use lib.ListN.{length, take, drop, length-drop}
-use lib.Seq.{take-all}
-use Prim.Native.Nat.{_+_, _-_, _/_}
+use mathlib.Core.Path.{sym, _∙_}
+use Prim.Native.Nat.{_+_, _/_}
 use borrow.Author.Tests.{ne-eqb}
-use Rattle.table_names.proofs.Words.{zeros-low}
+use Rattle.table_names.proofs.Words.{rest-is, zeros-low}
 use native.Mathlib.Omega.{arith}
 use borrow.Author.Needs.{needs}
 use Rattle.table_names.proofs.zeros_from.Statement.{statement}
@@ -18,8 +16,7 @@ returns c =
     let l = s .pre .0 in
     let h = s .pre .1 in
     let z = sym (c .before .before .before .low-bytes .ensures) ∙ c .before .before .if1 .taken in
-    let r : take (length w - (k / 4 + 1)) (drop (k / 4 + 1) w) ≡ drop (k / 4 + 1) w = take-all (length w - (k / 4 + 1)) (drop (k / 4 + 1) w) (omega (arith, length-drop (k / 4 + 1) w)) in
-    c .all-zero .ensures ∙ rw (zeros-low w k (omega arith), z, r)
+    c .all-zero .ensures ∙ rw (zeros-low w k (omega arith), z, rest-is w (k / 4 + 1))
 
 returns-2 : tie.Need-returns-2
 returns-2 c =

@@ -1,0 +1,2 @@
+-- Laws of the last rows of each depth.
+pub mod Last

@@ -1,0 +1,2 @@
+-- The last row of each depth.
+pub mod Last
