@@ -2,7 +2,7 @@
 use mathlib.Core.Path.{_≡_, refl, ap, ap₂, sym, _∙_}
 use mathlib.Core.List.{List, [], _∷_, _++_}
 use mathlib.Core.Bool.{Bool, true, false, cond}
-use mathlib.Core.Logic.{_⊎_, inl, inr}
+use mathlib.Core.Logic.{_⊎_, inl, inr, ⊎-map}
 use native.Mathlib.Omega.{arith}
 use native.Mathlib.Numerals.{add-one}
 use lib.ListN.{length}
@@ -13,20 +13,20 @@ use Rattle.tree.specs.Same.{sameNode}
 use Rattle.settle.specs.Decision.{rule, decide}
 use Rattle.settle.specs.Plan.{settle}
 use Rattle.table_stands.specs.Stands.{Ruled}
-use Rattle.plan_cursor.specs.Cursor.{none, orderAt, turned, least, decision}
+use Rattle.plan_cursor.specs.Cursor.{least, decision}
 use Rattle.plan_cursor.specs.declared.Rows.{Rows}
 use Rattle.plan_cursor.specs.declared.Decision.the-variants.{Agreed, LeftGets, RightGets, Clash}
 use Rattle.tree.proofs.Never.{never}
 use Rattle.tree.proofs.Size.{rowCount}
-use Rattle.settle.proofs.Names.{present}
 use Rattle.settle.proofs.Merge.{first, skip, sorted-skip, plan-end}
 use Rattle.table_stands.proofs.Same.{same-subtrees}
 use Rattle.plan.specs.Items.{kind, items, orNone, wordsOf}
 use Rattle.plan.specs.Settle.{Three, four, decisionWords, ended, past, merge, enough, flatten, firsts, both, entry}
 use Rattle.plan.proofs.Runs.{Runs, written, past as pastRuns, inside, Ready, entryWords, ownWords, written-step, words-single, words-pair}
 use Rattle.plan.proofs.Head.{Run, headRow}
-use Rattle.plan.proofs.Least.{Key, Key.named, Key.last, key, LeastOf, leastKey, least-of, least-key, keep-none, keep-first, order-turned, key-at, order-keys}
+use Rattle.plan.proofs.Least.{Key, Key.named, Key.last, key, LeastOf, leastKey, least-of, least-key, keep-first, key-at, least-keys}
 use Rattle.plan.proofs.Keys.{key-last, key-first, key-eight, up-last, stands-row, run-size, size-none, Levels, levels-skip, levels-inside, levels-none, sorted-inside, ruled-kids, key-has, some-rows, settle-pair, settle-alone}
+use Rattle.plan.proofs.Ended.{some-row, least-ended}
 use Rattle.plan.proofs.OneTable.{isFold, Entry, entry as entry-of, no-row}
 
 abbrev pub heads : Runs → Rows
@@ -85,12 +85,7 @@ module _ (o l r : List ℕ) (T : Three o l r) where
       let kl = key-at l e (z .l) (z .bl) (T .l-small) (A .fl .run) (A .fl .ruled) in
       let kr = key-at r e (z .r) (z .br) (T .r-small) (A .fr .run) (A .fr .ruled) in
       rw (
-        order-keys o (headRow (z .o) (z .bo)) l (headRow (z .l) (z .bl)) (key (z .o)) (key (z .l)) ko kl,
-        order-keys l (headRow (z .l) (z .bl)) r (headRow (z .r) (z .br)) (key (z .l)) (key (z .r)) kl kr,
-        order-keys o (headRow (z .o) (z .bo)) r (headRow (z .r) (z .br)) (key (z .o)) (key (z .r)) ko kr,
-        order-turned (key (z .o)) (key (z .l)),
-        order-turned (key (z .o)) (key (z .r)),
-        order-turned (key (z .l)) (key (z .r)),
+        least-keys o l r (heads z) (key (z .o)) (key (z .l)) (key (z .r)) ko kl kr,
         keep-first n (z .o) (key (z .l)) (key (z .r)) (z .bo) L,
         keep-first n (z .l) (key (z .o)) (key (z .r)) (z .bl) (turn L),
         keep-first n (z .r) (key (z .o)) (key (z .l)) (z .br) (turn2 L),
@@ -113,26 +108,12 @@ module _ (o l r : List ℕ) (T : Three o l r) where
           go (inr (inr a)) = inl a
 
   -- so one of them is a row, and their name is the least
-  some-row : (e : ℕ) (n : Name) (z : Runs) → Entries e n z → LeastOf (key (z .o)) (key (z .l)) (key (z .r)) (named n) → ended o l r (own n z) ≡ false
-  unfolding ended
-  some-row e n z E L =
-      rw (
-        stands-row o (orNone (first n (z .o)) (z .bo)) (suc e) n (first n (z .o)) (E .eo .stands),
-        stands-row l (orNone (first n (z .l)) (z .bl)) (suc e) n (first n (z .l)) (E .el .stands),
-        stands-row r (orNone (first n (z .r)) (z .br)) (suc e) n (first n (z .r)) (E .er .stands),
-      )
-      (go (L .one))
-    where
-      over : (a b : Bool) → cond a false (cond b false false) ≡ false
-      over true b = refl
-      over false true = refl
-      over false false = refl
-
-      go : (named n ≡ key (z .o)) ⊎ ((named n ≡ key (z .l)) ⊎ (named n ≡ key (z .r)))
-          → cond (present (first n (z .o))) false (cond (present (first n (z .l))) false (cond (present (first n (z .r))) false true)) ≡ false
-      go (inl q) = rw (key-first n (z .o) (sym q))
-      go (inr (inl q)) = rw (key-first n (z .l) (sym q)) (over (present (first n (z .o))) true)
-      go (inr (inr q)) = rw (key-first n (z .r) (sym q)) (over (present (first n (z .o))) (present (first n (z .l))))
+  own-row : (e : ℕ) (n : Name) (z : Runs) → Entries e n z → LeastOf (key (z .o)) (key (z .l)) (key (z .r)) (named n) → ended o l r (own n z) ≡ false
+  own-row e n z E L =
+      some-row o l r (own n z)
+      (⊎-map (λ q. stands-row o _ (suc e) n (first n (z .o)) (E .eo .stands) ∙ key-first n (z .o) (sym q))
+      (⊎-map (λ q. stands-row l _ (suc e) n (first n (z .l)) (E .el .stands) ∙ key-first n (z .l) (sym q))
+      (λ q. stands-row r _ (suc e) n (first n (z .r)) (E .er .stands) ∙ key-first n (z .r) (sym q))) (L .one))
 
   ready : (e k : ℕ) (n : Name) (z : Runs) → At e k z → LeastOf (key (z .o)) (key (z .l)) (key (z .r)) (named n) → Ready n z
   ready e k n z A L = record {
@@ -216,18 +197,7 @@ module _ (o l r : List ℕ) (T : Three o l r) where
   -- where no run has a head left, nothing is written
   no-heads : (e : ℕ) (z : Runs) → z .o ≡ end → z .l ≡ end → z .r ≡ end → ended o l r (least o l r (heads z)) ≡ true
   unfolding ended
-  no-heads e z a b c =
-      rw (
-        a,
-        b,
-        c,
-        keep-none (orderAt o none l none) (orderAt o none r none),
-        keep-none (turned (orderAt o none l none)) (orderAt l none r none),
-        keep-none (turned (orderAt o none r none)) (turned (orderAt l none r none)),
-        no-row o (T .o-small),
-        no-row l (T .l-small),
-        no-row r (T .r-small),
-      )
+  no-heads e z a b c = least-ended o l r (heads z) ∙ rw (a, b, c, no-row o (T .o-small), no-row l (T .l-small), no-row r (T .r-small))
 
   at-past : (e k : ℕ) (n : Name) (z : Runs) → At e k z → Entries e n z → At e k (pastRuns n z)
   at-past e k n z A E = record {
@@ -264,7 +234,7 @@ module _ (o l r : List ℕ) (T : Three o l r) where
           let E = entries-of e k n z A in
           let R = ready e k n z A L in
           let own-first : from-first (own n z) ≡ written z =
-          rw (some-row e n z E L, E .eo .next, E .el .next, E .er .next)
+          rw (own-row e n z E L, E .eo .next, E .el .next, E .er .next)
           (ap₂ (λ (x y : List ℕ). x ++ y) (H e n z A L) (ih e (pastRuns n z) (at-past e k n z A E) (let f = fewer e k n z A E (L .one) in omega arith))
           ∙ sym (written-step z n R (key-has n (z .o) (z .l) (z .r) (R .so) (R .sl) (R .sr) L))) in
           ap from-first (least-own e k n z A L) ∙ own-first

@@ -14,7 +14,8 @@ use Rattle.table_row.specs.Tree.{fileRow, folderRow, rowsOf}
 use Rattle.table_row.specs.Order.{ordered}
 use Rattle.table_row.specs.declared.Order.{Order}
 use Rattle.table_stands.specs.Stands.{Ruled}
-use Rattle.plan_cursor.specs.Cursor.{none, isRow, orderAt, turned, notAfter, keep}
+use Rattle.plan_cursor.specs.Cursor.{none, isRow, orderAt, turned, notAfter, keep, least}
+use Rattle.plan_cursor.specs.declared.Rows.{Rows}
 use Rattle.tree.proofs.Never.{never}
 use Rattle.tree.proofs.Order.{flip, cmp-refl, cmp-eq, cmp-flip, cmp-trans}
 use Rattle.settle.proofs.Merge.{first, Least}
@@ -120,7 +121,7 @@ least-key n (leaf m c s) h = h
 least-key n (dir m k s) h = h
 
 -- what the code keeps of a head, by its order against two others
-pub keep-none : (x y : Order) → keep x y none ≡ none
+keep-none : (x y : Order) → keep x y none ≡ none
 keep-none x y = go (notAfter x) (notAfter y)
   where
     go : (a b : Bool) → cond a (cond b none none) none ≡ none
@@ -128,7 +129,7 @@ keep-none x y = go (notAfter x) (notAfter y)
     go true false = refl
     go false b = refl
 
-up-to : (x y : Key) → UpTo x y → notAfter (ordered (cmpKey x y)) ≡ true
+pub up-to : (x y : Key) → UpTo x y → notAfter (ordered (cmpKey x y)) ≡ true
 up-to x y h = go (cmpKey x y) refl
   where
     go : (w : Ordering) → cmpKey x y ≡ w → notAfter (ordered w) ≡ true
@@ -173,7 +174,7 @@ keep-first n (leaf m c s) y z b l = kept n m (file c) y z b tt l
 keep-first n (dir m k s) y z b l = kept n m (folder k) y z b tt l
 
 -- the code's order of two heads
-pub order-turned : (x y : Key) → turned (ordered (cmpKey x y)) ≡ ordered (cmpKey y x)
+order-turned : (x y : Key) → turned (ordered (cmpKey x y)) ≡ ordered (cmpKey y x)
 order-turned x y = rw (cmpKey-flip x y) (go (cmpKey x y))
   where
     go : (w : Ordering) → turned (ordered w) ≡ ordered (flip w)
@@ -181,7 +182,7 @@ order-turned x y = rw (cmpKey-flip x y) (go (cmpKey x y))
     go Ordering·eq = refl
     go Ordering·gt = refl
 
-abbrev KeyAt : List ℕ → ℕ → Key → Type 0
+abbrev pub KeyAt : List ℕ → ℕ → Key → Type 0
 KeyAt w i last = isRow w i ≡ false
 KeyAt w i (named m) = (isRow w i ≡ true) × (name (rowAt w i) ≡ m)
 
@@ -195,9 +196,26 @@ key-at w e (dir m k s) b h r t =
     let q = head w b (folderRow (suc e) m) ((rowsOf (suc (suc e)) k ++ rowsOf (suc e) s) ++ r .rest) (r .here) in
     (lt-ltb b (length w / 20) (q .is), ap name (q .row) ∙ folder-name (suc e) m (t .0))
 
-pub order-keys : (w : List ℕ) (i : ℕ) (v : List ℕ) (j : ℕ) (x y : Key) → KeyAt w i x → KeyAt v j y → orderAt w i v j ≡ ordered (cmpKey x y)
+order-keys : (w : List ℕ) (i : ℕ) (v : List ℕ) (j : ℕ) (x y : Key) → KeyAt w i x → KeyAt v j y → orderAt w i v j ≡ ordered (cmpKey x y)
 unfolding orderAt
 order-keys w i v j (named n) (named m) a b = rw (a .0, b .0, a .1, b .1)
 order-keys w i v j (named n) last a b = rw (a .0, b)
 order-keys w i v j last (named m) a b = rw (a, b .0)
 order-keys w i v j last last a b = rw (a, b)
+
+-- each head against the other two, by the keys
+pub least-keys : (o l r : List ℕ) (h : Rows) (x y z : Key) → KeyAt o (h .o) x → KeyAt l (h .l) y → KeyAt r (h .r) z
+    → least o l r h ≡ record {
+      o = keep (ordered (cmpKey x y)) (ordered (cmpKey x z)) (h .o);
+      l = keep (ordered (cmpKey y x)) (ordered (cmpKey y z)) (h .l);
+      r = keep (ordered (cmpKey z x)) (ordered (cmpKey z y)) (h .r);
+    }
+least-keys o l r h x y z a b c =
+    rw (
+      order-keys o (h .o) l (h .l) x y a b,
+      order-keys l (h .l) r (h .r) y z b c,
+      order-keys o (h .o) r (h .r) x z a c,
+      order-turned x y,
+      order-turned x z,
+      order-turned y z,
+    )

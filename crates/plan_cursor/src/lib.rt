@@ -1,5 +1,6 @@
 // Three tables looked at through a row number of each: the next entry, the entries of the least name, the decision there.
 ghost use mathlib.Core.Path.{_≡_};
+ghost use mathlib.Core.Bool.{true};
 ghost use Prim.Native.Nat.{_+_, _*_, _%_, _≤_};
 ghost use lib.ListN.{length};
 ghost use Rattle.plan_cursor.specs.Cursor.{isRow, from, orderAt, notAfter, keep, turned, least, behind, isFolder, decision};
@@ -101,13 +102,35 @@ fn turn(x: table_row::Order) -> table_row::Order
     }
 }
 
-// Of three heads those with the least name.
+// Whether three heads are rows with one name.
+fn same_heads(o: &[u32], l: &[u32], r: &[u32], h: Rows) -> bool
+    ensures { λ b. ⌜ (b ≡ true → least (now (o .entry)) (now (l .entry)) (now (r .entry)) h ≡ h) ⌝ }
+{
+    let a = table_row::wide(h.o);
+    let b = table_row::wide(h.l);
+    let c = table_row::wide(h.r);
+    if a < o.len() / 20 {
+        if b < l.len() / 20 {
+            if c < r.len() / 20 {
+                if table_compare::same_names(l, b, r, c) {
+                    return table_compare::same_names(o, a, l, b);
+                }
+            }
+        }
+    }
+    false
+}
+
+// Of three heads those with the least name; where all have one name, as most do, that is told first.
 pub fn least_of(o: &[u32], l: &[u32], r: &[u32], h: Rows) -> Rows
     ensures { λ g. ⌜ g ≡ least (now (o .entry)) (now (l .entry)) (now (r .entry)) h ⌝ }
 {
     let a = h.o;
     let b = h.l;
     let c = h.r;
+    if same_heads(o, l, r, h) {
+        return h;
+    }
     let x = order_at(o, a, l, b);
     let y = order_at(l, b, r, c);
     let z = order_at(o, a, r, c);

@@ -14,6 +14,7 @@ use Rattle.plan_cursor.specs.declared.Decision.{Decision}
 use Rattle.plan_cursor.specs.declared.Decision.the-variants.{Agreed, LeftGets, RightGets, Clash}
 use Rattle.plan.specs.Settle.{four, decisionWords, ended, past, merge, flatten, firsts, both, entry, folder}
 use Rattle.plan.specs.Writes.{Writes}
+use Rattle.plan.proofs.Ended.{least-ended}
 use Rattle.plan.proofs.Writes.{then, onward}
 
 pub length-words : (x : Decision) → length (decisionWords x) ≡ 4
@@ -23,11 +24,11 @@ length-words (LeftGets h) = refl
 length-words (RightGets h) = refl
 length-words (Clash h) = refl
 
-merge-next : (o l r : List ℕ) (d m : ℕ) (h : Rows) → 0 < m → ended o l r (least o l r h) ≡ false
+merge-next : (o l r : List ℕ) (d m : ℕ) (h : Rows) → 0 < m → ended o l r h ≡ false
     → merge o l r d m h ≡ least o l r h ∷ merge o l r d (m - 1) (past o l r d h (least o l r h))
 unfolding merge
 merge-next o l r d zero h p e = absurd (not-suc-le-zero p)
-merge-next o l r d (suc m) h p e = rw (e, sub-one)
+merge-next o l r d (suc m) h p e = rw (least-ended, e, sub-one)
 
 module _ (o l r : List ℕ) where
   pub entry-folder : (k d : ℕ) (h : Rows) → 0 < k → both l r h ≡ true
@@ -61,25 +62,25 @@ module _ (o l r : List ℕ) (k d : ℕ) where
   rest-zero zero g p = refl
   rest-zero (suc m) g p = absurd (not-suc-le-zero p)
 
-  pub rest-ended : (m : ℕ) (g e : Rows) → e ≡ least o l r g → ended o l r e ≡ true → rest m g ≡ []
+  pub rest-ended : (m : ℕ) (g : Rows) → ended o l r g ≡ true → rest m g ≡ []
   unfolding merge flatten
-  rest-ended zero g e i n = refl
-  rest-ended (suc m) g e i n = rw (rw i at n)
+  rest-ended zero g n = refl
+  rest-ended (suc m) g n = rw (least-ended, n)
 
   -- where there is an entry left
-  pub rest-next : (m : ℕ) (g e : Rows) → 0 < m → e ≡ least o l r g → ended o l r e ≡ false
+  pub rest-next : (m : ℕ) (g e : Rows) → 0 < m → ended o l r g ≡ false → e ≡ least o l r g
       → rest m g ≡ entry o l r k d e ++ rest (m - 1) (past o l r d g e)
   unfolding flatten
-  rest-next m g e p i n = ap (flatten (entry o l r k d)) (merge-next o l r d m g p (rw i at n)) ∙ rw i
+  rest-next m g e p n i = ap (flatten (entry o l r k d)) (merge-next o l r d m g p n) ∙ rw i
 
   -- a turn of the loop: the entry e is written, and the rest is what comes behind it
   pub turn : {plan₀ plan plan′ all : List ℕ} {at q q′ : ℕ} (m : ℕ) (g g′ e : Rows)
-      → 0 < m → e ≡ least o l r g → ended o l r e ≡ false → g′ ≡ past o l r d g e
+      → 0 < m → ended o l r g ≡ false → e ≡ least o l r g → g′ ≡ past o l r d g e
       → q ≤ length plan → Writes plan q (entry o l r k d e) plan′ q′
       → Writes plan₀ at all (written plan q (rest m g)) (q + length (rest m g))
       → Writes plan₀ at all (written plan′ q′ (rest (m - 1) g′)) (q′ + length (rest (m - 1) g′))
-  turn m g g′ e p i n j h w v =
-      rw j (onward (rest (m - 1) (past o l r d g e)) h (rest-next m g e p i n) w v)
+  turn m g g′ e p n i j h w v =
+      rw j (onward (rest (m - 1) (past o l r d g e)) h (rest-next m g e p n i) w v)
 
   -- an entry that is a folder on both sides
   pub down : {plan plan′ last : List ℕ} {at q p : ℕ} (h g : Rows) → 0 < k → both l r h ≡ true → g ≡ firsts o l r (d + 1) h

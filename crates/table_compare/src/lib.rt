@@ -7,6 +7,7 @@ ghost use lib.ListN.{length};
 ghost use Rattle.tree.specs.Name.{cmp};
 ghost use Rattle.tree.specs.declared.Profile.the-variants.{Folded};
 ghost use Rattle.tree.specs.Key.{lowerWord, key};
+ghost use Rattle.tree.specs.Same.{sameWords};
 ghost use Rattle.table_row.specs.Table.{rowAt, name};
 ghost use Rattle.table_row.specs.Order.{ordered};
 ghost use Rattle.table_row.specs.Keyed.{keyWord};
@@ -60,6 +61,24 @@ pub fn compare_words(a: &[u32], b: &[u32]) -> Order
     ensures { λ r. ⌜ r ≡ ordered (cmp (now (a .entry)) (now (b .entry))) ⌝ }
 {
     compare_keys(Profile::Exact, a, b)
+}
+
+// Whether the names of row i of a and row j of b are the same: all words are looked at, so that no jump depends on one of them.
+pub fn same_names(a: &[u32], i: usize, b: &[u32], j: usize) -> bool
+    requires { ⌜ (20 * i + 20 ≤ length (now a)) × (20 * j + 20 ≤ length (now b)) ⌝ }
+    ensures { λ r. ⌜ r ≡ sameWords (name (rowAt (now (a .entry)) i)) (name (rowAt (now (b .entry)) j)) ⌝ }
+{
+    let p = 20 * i + 2;
+    let q = 20 * j + 2;
+    let mut same = true;
+    let mut k = 0;
+    while k < 8 {
+        if a[p + k] != b[q + k] {
+            same = false;
+        }
+        k += 1;
+    }
+    same
 }
 
 // The order of the names of row i of a and row j of b.

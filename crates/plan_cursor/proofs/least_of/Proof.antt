@@ -1,10 +1,11 @@
 -- `plan_cursor::least_of` meets its contract: the least of three names, and the rows that have it.
+use mathlib.Core.Path.{sym}
 use borrow.Author.Needs.{needs}
 use Rattle.plan_cursor.proofs.least_of.Statement.{statement}
 use Rattle.plan_cursor.proofs.least_of.Tie as tie
 
-returns : tie.Need-returns
-returns c =
+returns-2 : tie.Need-returns-2
+returns-2 c =
     let t = c .before in
     let k = t .before .before in
     let j = k .before .before in
@@ -27,6 +28,7 @@ least-of-spec =
     tie.close
     (tie.spec
     (λ c κs. search needs)
+    (λ c. sym (c .before .same-heads .ensures (c .if1 .taken)))
     (λ c κs. search needs)
     (λ c κs. search needs)
     (λ c κs. search needs)
@@ -35,4 +37,5 @@ least-of-spec =
     (λ c κs. search needs)
     (λ c κs. search needs)
     (λ c κs. search needs)
-    returns)
+    (λ c κs. search needs)
+    returns-2)

@@ -133,10 +133,10 @@ pub +settle-entry+settle-folder-spec : {M : Type 1} → statement M
     (λ x. sym (x .1 .ensures) ∙ x .2 .left) (λ x. x .left) (c .before .before .before .before .before .if1 .came) in
     rw (e, ← c .before .before .before .before .decide .ensures) (c .before .before .push2 .ensures)))
     λ t. settle-folder-lts.spec (
-      least-of-reads.Asked,
-      least-of-reads.Learnt,
       ended-at-reads.Asked,
       ended-at-reads.Learnt,
+      least-of-reads.Asked,
+      least-of-reads.Learnt,
       settle-entry-below t,
       settle-entry.Post,
       past-at-reads.Asked,
@@ -150,21 +150,21 @@ pub +settle-entry+settle-folder-spec : {M : Type 1} → statement M
     (λ c. search needs)
     (λ c. (refl, record { next = refl; words = refl }))
     (λ c κs. search needs)
-    (λ c κs. search needs)
     (λ c. search needs)
     (λ c.
-    let l = c .before .before .before .before in
+    let l = c .before .before .before in
     let a = l .before .before .before .before .before .args in
     let n = sym (c .before .ended-at .ensures) ∙ c .if1 .taken in
-    let e = rest-ended (a .o .now) (a .l .now) (a .r .now) (a .k) (a .d) (l .loop .left) (l .loop .g) _ (c .before .before .least-of .ensures) n in
+    let e = rest-ended (a .o .now) (a .l .now) (a .r .now) (a .k) (a .d) (l .loop .left) (l .loop .g) n in
     done e (l .loop .inv .1))
+    (λ c κs. search needs)
     (λ c κs.
     let l = c .before .before .before .before .before in
     let s = l .before .before .before .before .before in
     let a = s .args in
-    let m = c .before .before .before in
-    let n = sym (c .before .before .ended-at .ensures) ∙ c .before .if1 .left in
-    let e = rest-next (a .o .now) (a .l .now) (a .r .now) (a .k) (a .d) (l .loop .left) (l .loop .g) _ (search needs) (m .least-of .ensures) n in
+    let m = c .before .before in
+    let n = sym (m .before .ended-at .ensures) ∙ m .if1 .left in
+    let e = rest-next (a .o .now) (a .l .now) (a .r .now) (a .k) (a .d) (l .loop .left) (l .loop .g) _ (search needs) n (c .before .least-of .ensures) in
     let f = simp length-append at (ap length e) in
     (search needs, (s .pre .1 .0, (s .pre .1 .1 .0, omega (arith, l .loop .inv .0, l .loop .inv .1 .next, s .pre .1 .1 .1)))))
     (λ c κs. search needs)
@@ -175,11 +175,12 @@ pub +settle-entry+settle-folder-spec : {M : Type 1} → statement M
     let s = l .before .before .before .before .before in
     let a = s .args in
     let e = c .before .before .before in
-    let m = e .before .before .before .before in
-    let n = sym (e .before .before .before .ended-at .ensures) ∙ e .before .before .if1 .left in
+    let m = e .before .before in
+    let i = m .before in
+    let n = sym (i .before .ended-at .ensures) ∙ i .if1 .left in
     let f : l .loop .q ≤ length (l .loop .plan) = omega (arith, l .loop .inv .0, l .loop .inv .1 .next, s .pre .1 .1 .1) in
     let w = turn (a .o .now) (a .l .now) (a .r .now) (a .k) (a .d) (l .loop .left) (l .loop .g) (c .past-at .result) (m .least-of .result)
-    (m .before .loop-test .taken) (m .least-of .ensures) n (c .past-at .ensures) f (e .settle-entry .ensures) (l .loop .inv .1) in
+    (i .before .before .loop-test .taken) n (m .least-of .ensures) (c .past-at .ensures) f (e .settle-entry .ensures) (l .loop .inv .1) in
     (e .settle-entry .kept .1 .1 .1 .1 .1 .1 .0 ∙ l .loop .inv .0, w))
     (λ c. search needs)
     (λ c.
