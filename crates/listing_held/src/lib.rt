@@ -1,13 +1,14 @@
 // What the entry of a line holds, and what the root does.
 use listing_keywords::Held;
+use listing_keywords::Hit;
 use listing_keywords::Said;
 ghost use mathlib.Core.Path.{_≡_};
 ghost use mathlib.Core.List.{[], _∷_};
 ghost use Prim.Native.Nat.{_≤_};
 ghost use lib.ListN.{length, drop};
-ghost use Rattle.listing.specs.Words.{words, values};
+ghost use Rattle.listing.specs.Words.{Words, words};
 ghost use Rattle.listing.specs.Entries.{Entry.faulty, typeIn, oneEach, entryOf, rootAs};
-ghost use Rattle.listing.specs.Bytes.{text};
+ghost use Rattle.listing_keywords.specs.Found.{Within, Found};
 ghost use Rattle.listing_keywords.specs.Entries.{saidOf, numberOf, IsEntry};
 
 // A number with no content: a fault's, or 0 for a folder.
@@ -51,13 +52,11 @@ fn content_of(size: &[u8], digest: &[u8]) -> Held
     bare(9)
 }
 
-// A file by a line's words: one good size and one good digest.
-fn file_of(line: &[u8], from: usize) -> Held
-    requires { ⌜ from ≤ length (now line) ⌝ }
-    ensures { λ r. ⌜ IsEntry (oneEach (values (text "size") (words (drop from (now (line .entry))))) (values (text "sha256digest") (words (drop from (now (line .entry)))))) r ⌝ }
+// A file by what was found of the values of size and of sha256digest: one good size and one good digest.
+fn file_of(line: &[u8], s: Hit, d: Hit) -> Held
+    requires { ⌜ Within (now line) (s .start) (s .end) × Within (now line) (d .start) (d .end) ⌝ }
+    ensures { λ r. ⌜ ((ss ds : Words) → Found (now (line .entry)) ss s → Found (now (line .entry)) ds d → IsEntry (oneEach ss ds) r) ⌝ }
 {
-    let s = listing_keywords::find_key(line, from, b"size");
-    let d = listing_keywords::find_key(line, from, b"sha256digest");
     let a = s.start;
     let b = s.end;
     let p = d.start;
@@ -76,11 +75,15 @@ pub fn entry_of(line: &[u8], from: usize, default: Said) -> Held
     requires { ⌜ from ≤ length (now line) ⌝ }
     ensures { λ r. ⌜ IsEntry (entryOf (saidOf default) (words (drop from (now (line .entry))))) r ⌝ }
 {
-    let t = listing_keywords::type_in(line, from, default);
+    let h = listing_keywords::find_keys(line, from);
+    let kind = h.kind;
+    let size = h.size;
+    let digest = h.digest;
+    let t = listing_keywords::type_by(line, kind, default);
     match t {
         Said::Unsaid => bare(10),
         Said::Dir => bare(0),
-        Said::File => file_of(line, from),
+        Said::File => file_of(line, size, digest),
         Said::Other => bare(10),
         Said::Twice => bare(9),
     }

@@ -1,3 +1,3 @@
--- What a line's words say: Found has a search for a keyword, Entries the line's type and what its entry holds.
+-- What a line's words say: Found has a search for keywords, Entries the line's type and what its entry holds.
 pub mod Found
 pub mod Entries

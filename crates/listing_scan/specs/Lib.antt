@@ -1,2 +1,3 @@
--- Places in a text.
+-- Places in a text, and bytes that are passed many at a time.
 pub mod Places
+pub mod Plain

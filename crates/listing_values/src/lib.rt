@@ -1,11 +1,14 @@
-// What a word says besides a name: a keyword, where its value begins, a size, a digest.
+// What a word says besides a name: a keyword, a size, a digest.
 ghost use mathlib.Core.Path.{_≡_};
-ghost use Prim.Native.Nat.{_<_};
+ghost use mathlib.Core.Bool.{true, cond};
+ghost use mathlib.Core.List.{map};
+ghost use Prim.Native.Nat.{_-_, _<_, _≤_};
 ghost use lib.ListN.{length, take};
 ghost use Rattle.tree.specs.Same.{sameWords};
+ghost use Rattle.listing.specs.Bytes.{digitValue, within};
 ghost use Rattle.listing.specs.Words.{keyLen};
 ghost use Rattle.listing_scan.specs.Places.{Counted};
-ghost use Rattle.listing_values.specs.Values.{IsValue, IsSize, IsHex, IsDigest};
+ghost use Rattle.listing_values.specs.Values.{IsSize, IsHex, IsDigest, allBelow, pairs};
 
 // A size's two words, and whether it is one.
 pub struct Size {
@@ -34,17 +37,6 @@ pub fn has_key(word: &[u8], key: &[u8]) -> bool
 {
     let k = key_end(word);
     listing_words::same_bytes(&word[..k], key)
-}
-
-// Where a word's value begins.
-pub fn value_start(word: &[u8]) -> usize
-    ensures { λ r. ⌜ IsValue (now (word .entry)) r ⌝ }
-{
-    let k = key_end(word);
-    if k < word.len() {
-        return k + 1;
-    }
-    k
 }
 
 // A digit's value, to count with.
@@ -89,26 +81,87 @@ pub fn size_of(value: &[u8]) -> Size
     }
 }
 
+// How far a byte of a range stands above base, and other for any other byte.
+fn above(b: u8, low: u8, high: u8, base: u8, other: u8) -> u8
+    requires { ⌜ base ≤ low ⌝ }
+    ensures { λ r. ⌜ r ≡ cond (within low high b) (b - base) other ⌝ }
+{
+    if low <= b {
+        if b <= high {
+            return b - base;
+        }
+    }
+    other
+}
+
+// The value of a hex digit, 16 where it is none. It goes by comparisons and not by a match with ranges: that one jumps on each
+// digit, and the digits of a digest can't be foreseen.
+fn hex_value(b: u8) -> u8
+    ensures { λ r. ⌜ r ≡ digitValue b ⌝ }
+{
+    let lower = above(b, 97, 102, 87, 16);
+    let upper = above(b, 65, 70, 55, lower);
+    above(b, 48, 57, 48, upper)
+}
+
+// The values of 64 hex digits, 16 for each that is none.
+fn hex_values(value: &[u8]) -> [u8; 64]
+    requires { ⌜ length (now value) ≡ 64 ⌝ }
+    ensures { λ r. ⌜ (length r ≡ 64) × (r ≡ map digitValue (now (value .entry))) ⌝ }
+{
+    let mut digits = [0u8; 64];
+    let mut i: usize = 0;
+    while i < 64 {
+        digits[i] = hex_value(value[i]);
+        i += 1;
+    }
+    digits
+}
+
+// Whether all are values of digits.
+fn all_digits(digits: &[u8; 64]) -> bool
+    requires { ⌜ length (now digits) ≡ 64 ⌝ }
+    ensures { λ r. ⌜ r ≡ allBelow 16 (now (digits .entry)) ⌝ }
+{
+    let mut good = true;
+    let mut i: usize = 0;
+    while i < 64 {
+        if 15 < digits[i] {
+            good = false;
+        }
+        i += 1;
+    }
+    good
+}
+
+// Two digits' values to a byte.
+fn packed_pairs(digits: &[u8; 64]) -> [u8; 32]
+    requires { ⌜ (length (now digits) ≡ 64) × (allBelow 16 (now digits) ≡ true) ⌝ }
+    ensures { λ r. ⌜ r ≡ pairs (now (digits .entry)) ⌝ }
+{
+    let mut bytes = [0u8; 32];
+    let mut i: usize = 0;
+    while i < 32 {
+        bytes[i] = 16 * digits[2 * i] + digits[2 * i + 1];
+        i += 1;
+    }
+    bytes
+}
+
 // The bytes that 64 hex digits say.
 fn hex_bytes(value: &[u8]) -> listing_names::Spelt
     requires { ⌜ length (now value) ≡ 64 ⌝ }
     ensures { λ r. ⌜ IsHex (now (value .entry)) r ⌝ }
 {
-    let mut bytes = [0u8; 32];
-    let mut i: usize = 0;
-    while i < 32 {
-        let a = listing_bytes::digit_value(value[2 * i]);
-        let b = listing_bytes::digit_value(value[2 * i + 1]);
-        if 15 < a {
-            return listing_names::Spelt { good: false, bytes };
-        }
-        if 15 < b {
-            return listing_names::Spelt { good: false, bytes };
-        }
-        bytes[i] = 16 * a + b;
-        i += 1;
+    let digits = hex_values(value);
+    if all_digits(&digits) {
+        let bytes = packed_pairs(&digits);
+        return listing_names::Spelt { good: true, bytes };
     }
-    listing_names::Spelt { good: true, bytes }
+    listing_names::Spelt {
+        good: false,
+        bytes: [0; 32],
+    }
 }
 
 // The digest that a value says.

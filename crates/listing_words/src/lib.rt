@@ -69,7 +69,7 @@ pub fn word_end(line: &[u8], from: usize) -> usize
     requires { ⌜ from ≤ length (now line) ⌝ }
     ensures { λ r. ⌜ Counted (now (line .entry)) (from + span (drop from (now (line .entry)))) r ⌝ }
 {
-    stretch_end(line, from, false)
+    stretch_end(line, listing_scan::past_plain(line, from, 33), false)
 }
 
 // A byte of number 7; most are from 32 to 126 and are not.
@@ -96,7 +96,7 @@ fn refused(b: u8) -> bool
 pub fn all_text(line: &[u8]) -> bool
     ensures { λ r. ⌜ r ≡ isText (now (line .entry)) ⌝ }
 {
-    let mut i = 0;
+    let mut i = listing_scan::past_plain(line, 0, 32);
     while i < line.len() {
         if refused(line[i]) {
             return false;

@@ -1,75 +1,31 @@
--- `hex_bytes` meets its contract: the first i bytes are what the digits before place 2 * i say.
-use mathlib.Core.Path.{refl, sym}
+-- `hex_bytes` meets its contract: what the digits say is what their values do.
+use mathlib.Core.Path.{sym, _∙_}
 use mathlib.Core.Bool.{false≢true}
-use Prim.Native.Nat.{_-_}
 use borrow.Author.Needs.{needs}
-use Rattle.listing_values.proofs.Digests.{Filled, fill-none, fill-one, first-bad, second-bad, filled-good, filled-bytes}
+use Rattle.listing_values.proofs.Digests.{digits-below, bytes-pairs}
 use Rattle.listing_values.proofs.hex_bytes.Statement.{statement}
 use Rattle.listing_values.proofs.hex_bytes.Tie as tie
 
-abbrev Inv-loop : tie.InvT-loop
-Inv-loop value bytes₀ i₀ bytes i = Filled value bytes i
+packed-pairs-requires : tie.Need-packed-pairs-requires
+packed-pairs-requires c κs = (search needs, sym (c .before .before .all-digits .ensures) ∙ c .before .if1 .taken)
 
-abbrev μ-loop : tie.MeasureT-loop
-μ-loop value bytes₀ i₀ bytes i = 32 - i
-
-loop-holds : tie.Need-loop-holds Inv-loop μ-loop
-loop-holds c = fill-none (c .before .args .value .now) _ refl
-
-returns : tie.Need-returns Inv-loop μ-loop
+returns : tie.Need-returns
 returns c =
-    let l = c .before .before .before .before .before .before in
-    let s = l .before .before in
+    let t = c .before .before .before in
+    let e = t .before .before .hex-values .ensures .1 in
     record {
-      told = sym (first-bad (s .args .value .now) (l .loop .bytes) (l .loop .i) _ _ (s .pre) (c .before .before .before .before .before .loop-test .taken) (l .loop .inv) (c .before .before .before .digit-value .ensures .value) (c .before .digit-value2 .ensures .value) (c .if1 .taken));
-      bytes = λ e. absurd (false≢true e);
+      told = sym (c .before .before .if1 .taken) ∙ t .all-digits .ensures ∙ rw e (digits-below 16 _);
+      bytes = λ q. c .packed-pairs .ensures ∙ rw e (bytes-pairs _);
     }
 
-returns-2 : tie.Need-returns-2 Inv-loop μ-loop
+returns-2 : tie.Need-returns-2
 returns-2 c =
-    let l = c .before .before .before .before .before .before .before in
-    let s = l .before .before in
+    let t = c .before in
     record {
-      told = sym (second-bad (s .args .value .now) (l .loop .bytes) (l .loop .i) _ _ (s .pre) (c .before .before .before .before .before .before .loop-test .taken) (l .loop .inv) (c .before .before .before .before .digit-value .ensures .value) (c .before .before .digit-value2 .ensures .value) (c .before .if1 .left) (c .if2 .taken));
-      bytes = λ e. absurd (false≢true e);
-    }
-
-loop-again : tie.Need-loop-again Inv-loop μ-loop
-loop-again c =
-    let l = c .before .before .before .before .before .before .before in
-    let s = l .before .before in
-    fill-one (s .args .value .now) (l .loop .bytes) (l .loop .i) _ _ (s .pre) (c .before .before .before .before .before .before .loop-test .taken) (l .loop .inv) (c .before .before .before .before .digit-value .ensures .value) (c .before .before .digit-value2 .ensures .value) (c .before .if1 .left) (c .if2 .left)
-
-returns-3 : tie.Need-returns-3 Inv-loop μ-loop
-returns-3 c =
-    let l = c .before in
-    let s = l .before .before in
-    let v = s .args .value .now in
-    record {
-      told = sym (filled-good v (l .loop .bytes) (l .loop .i) (s .pre) (c .loop-test .left) (l .loop .inv));
-      bytes = λ e. filled-bytes v (l .loop .bytes) (l .loop .i) (s .pre) (c .loop-test .left) (l .loop .inv);
+      told = sym (c .if1 .left) ∙ t .all-digits .ensures ∙ rw (t .before .before .hex-values .ensures .1) (digits-below 16 _);
+      bytes = λ q. absurd (false≢true q);
     }
 
 pub hex-bytes-spec : {M : Type 1} → statement M
 hex-bytes-spec =
-    tie.close
-    (tie.spec
-    Inv-loop
-    μ-loop
-    loop-holds
-    (λ c. search needs)
-    (λ c. search needs)
-    (λ c κs. search needs)
-    (λ c. search needs)
-    (λ c. search needs)
-    (λ c. search needs)
-    (λ c κs. search needs)
-    returns
-    returns-2
-    (λ c. search needs)
-    (λ c. search needs)
-    (λ c. search needs)
-    (λ c. search needs)
-    (λ c. search needs)
-    loop-again
-    returns-3)
+    tie.close (tie.spec (λ c κs. search needs) (λ c κs. search needs) packed-pairs-requires returns returns-2)
