@@ -2,7 +2,8 @@
 //! prints.
 //!
 //! The program is target/bin/syncplan of the repository, which `rt check syncplan` writes. The
-//! variable SYNCPLAN names another one.
+//! variable SYNCPLAN names another one, and SYNCPLAN_RUNNER an emulator to run it by, where this is not
+//! its processor.
 #![forbid(unsafe_code)]
 #![deny(missing_docs)]
 
@@ -12,6 +13,7 @@ pub use reference::Profile;
 pub use shape::check_shape;
 
 use reference::PROFILES;
+use std::ffi::OsString;
 use std::path::{Path, PathBuf};
 use std::process::{Command, Output, Stdio};
 use std::sync::atomic::{AtomicUsize, Ordering};
@@ -108,7 +110,25 @@ impl Folder {
 
     /// A run of another program in the same folder.
     pub fn command_of(&self, program: &Path) -> Command {
-        let mut command = Command::new(program);
+        let mut words: Vec<OsString> = env::var_os("SYNCPLAN_RUNNER").into_iter().collect();
+        words.push(program.into());
+        let mut command = Command::new(&words[0]);
+        command.args(&words[1..]);
+        command.current_dir(&self.path).stdin(Stdio::null());
+        command
+    }
+
+    /// A run of the program with so many kilobytes of stack. An emulator makes the stack of what it
+    /// runs itself: of its own variable's size.
+    pub fn command_with_stack(&self, kilobytes: usize) -> Command {
+        let usual = self.command();
+        let mut command = Command::new("/bin/sh");
+        command
+            .args(["-c", "ulimit -s \"$0\" && exec \"$@\""])
+            .arg(kilobytes.to_string())
+            .arg(usual.get_program())
+            .args(usual.get_args())
+            .env("QEMU_STACK_SIZE", (kilobytes * 1024).to_string());
         command.current_dir(&self.path).stdin(Stdio::null());
         command
     }

@@ -2,7 +2,6 @@
 
 use reference::generate::padded;
 use reference::{Profile, PROFILES};
-use std::path::Path;
 use syncplan_tests::{arguments, check, Files, Folder, MOST_BYTES, MOST_ROWS};
 
 /// The plan must fit into so many bytes.
@@ -53,13 +52,8 @@ fn due_with_little_stack(files: &Files, printed: &str) {
     folder.put_all(files);
     folder.due_in_both(printed);
     for profile in PROFILES {
-        let mut command = folder.command_of(Path::new("/bin/sh"));
-        let program = folder.command().get_program().to_os_string();
-        let limited = format!("ulimit -s {} && exec \"$0\" \"$@\"", little_stack(profile));
-        command
-            .args(["-c", &limited])
-            .arg(program)
-            .args(arguments(profile));
+        let mut command = folder.command_with_stack(little_stack(profile));
+        command.args(arguments(profile));
         check(&command.output().expect("a shell starts"), printed);
     }
 }
