@@ -80,7 +80,7 @@ fn pair(rng: &mut Random, shape: Shape, change: Change) -> Pair {
         room(Folded, &respelled),
     ];
     let [one, two, three] = &mut lent;
-    let [exact, folded, respelled] = times([
+    let ([exact, folded, respelled], _) = times([
         &mut || library_reconcile(Exact, &tables, one),
         &mut || library_reconcile(Folded, &tables, two),
         &mut || library_reconcile(Folded, &respelled, three),

@@ -60,7 +60,7 @@ pub fn reconcile(
     let outcome = reference::reconcile(profile, archive, left, right, Rooms::AMPLE)
         .expect("what one side changes keeps its rows");
     let (mut ours, mut theirs, mut copied) = (exact(&outcome), exact(&outcome), exact(&outcome));
-    let [library, reference, copy] = times([
+    let ([library, reference, copy], before) = times([
         &mut || library_reconcile(profile, &tables, &mut ours),
         &mut || {
             let [o, l, r] = black_box(&tables);
@@ -85,6 +85,7 @@ pub fn reconcile(
         rows,
         all_rows: 3 * rows,
         library,
+        before,
         reference,
         copy,
     }
@@ -99,7 +100,7 @@ pub fn make_move(rng: &mut Random, profile: Profile, shape: Shape, rows: usize) 
     let taken = ours(profile);
     let mut moved = vec![0; MOST_ROWS * ROW];
     let (mut theirs, mut copied) = (moved.clone(), moved.clone());
-    let [library, reference, copy] = times([
+    let ([library, reference, copy], before) = times([
         &mut || {
             let (target, source) = black_box((&target, &source));
             let rows = kantifero::make_move(taken, target, source, &names, depth, &mut moved);
@@ -124,6 +125,7 @@ pub fn make_move(rng: &mut Random, profile: Profile, shape: Shape, rows: usize) 
         rows,
         all_rows: 2 * rows,
         library,
+        before,
         reference,
         copy,
     }
@@ -137,7 +139,7 @@ pub fn carried(rng: &mut Random, profile: Profile, shape: Shape, rows: usize) ->
     let part = part.expect("the row is the left's");
     let due = &left[part.start..][..part.words];
     let mut copied = due.to_vec();
-    let [library, reference, copy] = times([
+    let ([library, reference, copy], before) = times([
         &mut || {
             let (left, right) = black_box((&left, &right));
             let rows = kantifero::carried(taken, left, right, [RIGHT_GETS, row, row]);
@@ -160,6 +162,7 @@ pub fn carried(rng: &mut Random, profile: Profile, shape: Shape, rows: usize) ->
         rows,
         all_rows: 2 * rows,
         library,
+        before,
         reference,
         copy,
     }
@@ -170,7 +173,7 @@ pub fn check(rng: &mut Random, profile: Profile, shape: Shape, rows: usize) -> L
     let table = reference::table(&generate::shaped(rng, profile, shape, rows));
     let taken = ours(profile);
     let mut copied = table.clone();
-    let [library, reference, copy] = times([
+    let ([library, reference, copy], before) = times([
         &mut || {
             black_box(kantifero::check(taken, black_box(&table))).expect("a good table");
         },
@@ -189,6 +192,7 @@ pub fn check(rng: &mut Random, profile: Profile, shape: Shape, rows: usize) -> L
         rows,
         all_rows: rows,
         library,
+        before,
         reference,
         copy,
     }
@@ -201,7 +205,7 @@ pub fn read(profile: Profile, shape: String, text: &[u8], rows: usize) -> Line {
     let mut theirs = made.clone();
     let mut copied = made.clone();
     let table = reference::read(profile, text, rows * ROW).expect("a good text");
-    let [library, reference, copy] = times([
+    let ([library, reference, copy], before) = times([
         &mut || {
             let rows = kantifero::read(taken, black_box(text), &mut made);
             black_box(rows).expect("a good text");
@@ -223,6 +227,7 @@ pub fn read(profile: Profile, shape: String, text: &[u8], rows: usize) -> Line {
         rows,
         all_rows: rows,
         library,
+        before,
         reference,
         copy,
     }
@@ -236,7 +241,7 @@ pub fn write(profile: Profile, shape: String, table: &[u32], bytes: usize) -> Li
     let mut copied = made.clone();
     let text = inputs::text_of(profile, table);
     let rows = table.len() / ROW;
-    let [library, reference, copy] = times([
+    let ([library, reference, copy], before) = times([
         &mut || {
             let bytes = kantifero::write(taken, black_box(table), &mut made);
             black_box(bytes).expect("it fits");
@@ -258,6 +263,7 @@ pub fn write(profile: Profile, shape: String, table: &[u32], bytes: usize) -> Li
         rows,
         all_rows: rows,
         library,
+        before,
         reference,
         copy,
     }

@@ -1,12 +1,14 @@
 //! How long each call takes in both profiles, for trees of three shapes and sizes: the proved library,
 //! the reference over the same words, and a plain copy of as much as the call hands back. With the
-//! argument `wall` the clock on the wall measures, else the thread's own.
+//! argument `wall` the clock on the wall measures, else the thread's own. `before PROGRAM`, last, has this program, linked with
+//! another build of the library, measured beside it.
 #![deny(missing_docs)]
 
 mod beside;
 mod calls;
 mod inputs;
 mod report;
+mod second;
 mod timing;
 
 use inputs::{Kind, Order};
@@ -20,8 +22,14 @@ use timing::Clock;
 const SIZES: [usize; 3] = [16, 256, 4096];
 
 fn main() {
-    let wall = std::env::args().nth(1).is_some_and(|word| word == "wall");
+    let words: Vec<String> = std::env::args().skip(1).collect();
+    let wall = words.iter().any(|word| word == "wall");
     timing::measure_by(if wall { Clock::Wall } else { Clock::Thread });
+    match &words[..] {
+        [first, ..] if first == "second" => second::be(),
+        [clock @ .., word, program] if word == "before" => second::start(program, clock),
+        _ => {}
+    }
     println!("clock: {}", if wall { "wall" } else { "thread" });
     let mut bench = Bench {
         rng: Random::new(2020),

@@ -1,5 +1,7 @@
 //! The measured lines, as a table, and what they say about the goals.
 
+use std::collections::BTreeMap;
+
 use reference::Profile;
 
 use crate::beside::Pair;
@@ -20,6 +22,8 @@ pub struct Line {
     pub all_rows: usize,
     /// The library's time.
     pub library: Time,
+    /// The time of the library's second build, where one is measured.
+    pub before: Option<Time>,
     /// The reference's time over the same words.
     pub reference: Time,
     /// The time of a plain copy of as much as the call hands back.
@@ -35,6 +39,11 @@ impl Line {
     /// How often the copy's time fits in the library's.
     fn copies(&self) -> f64 {
         self.library.median / self.copy.median
+    }
+
+    /// The library's time as a share of that of the second build.
+    fn share(&self) -> Option<f64> {
+        Some(self.library.median / self.before?.median)
     }
 
     fn per_row(&self) -> f64 {
@@ -62,15 +71,15 @@ fn in_words(profile: Profile) -> &'static str {
 /// Prints the head of a table.
 pub fn head(profile: Profile, title: &str) {
     println!("\n### {title} ({})\n", in_words(profile));
-    println!("| call | trees | rows | library us | reference us | copy us | reference / library | library / copy | ns a row |");
-    println!("|---|---|--:|--:|--:|--:|--:|--:|--:|");
+    println!("| call | trees | rows | library us | reference us | copy us | reference / library | library / copy | ns a row | library / before |");
+    println!("|---|---|--:|--:|--:|--:|--:|--:|--:|--:|");
 }
 
 /// Prints a line of a table.
 pub fn show(line: &Line) {
     let micros = |time: Time| format!("{:.2}", time.median / 1000.0);
     println!(
-        "| {} | {} | {} | {} | {} | {} | {:.1} | {:.1} | {:.1} |",
+        "| {} | {} | {} | {} | {} | {} | {:.1} | {:.1} | {:.1} | {} |",
         line.call,
         line.shape,
         line.rows,
@@ -79,8 +88,31 @@ pub fn show(line: &Line) {
         micros(line.copy),
         line.faster(),
         line.copies(),
-        line.per_row()
+        line.per_row(),
+        line.share()
+            .map_or("".into(), |share| format!("{share:.2}"))
     );
+}
+
+/// Prints for each call, by its profile and rows, the least, the middle and the greatest share of its time before.
+fn shares(lines: &[Line]) {
+    println!("\n### Library / before: least, middle and greatest of the lines of a call\n");
+    println!("| profile | call | rows | lines | least | middle | greatest |");
+    println!("|---|---|--:|--:|--:|--:|--:|");
+    let mut by_call: BTreeMap<_, Vec<f64>> = BTreeMap::new();
+    for line in lines {
+        let named = (in_words(line.profile), line.call, line.rows);
+        by_call.entry(named).or_default().extend(line.share());
+    }
+    for ((profile, call, rows), mut shares) in by_call {
+        shares.sort_by(f64::total_cmp);
+        let (least, middle) = (shares[0], shares[shares.len() / 2]);
+        let greatest = shares[shares.len() - 1];
+        println!(
+            "| {profile} | {call} | {rows} | {} | {least:.2} | {middle:.2} | {greatest:.2} |",
+            shares.len()
+        );
+    }
 }
 
 /// Prints the line that is worst by a measure, with that measure and the goal for it.
@@ -105,6 +137,9 @@ fn goal<'a>(
 
 /// Prints what the lines say about the goals.
 pub fn goals(lines: &[Line], pairs: &[Pair]) {
+    if lines.iter().any(|line| line.before.is_some()) {
+        shares(lines);
+    }
     println!("\n### Goals\n");
     goal(
         "no call is slower than the reference (reference / library at least 1)",

@@ -3,6 +3,8 @@
 use std::sync::OnceLock;
 use std::time::{Duration, Instant};
 
+use crate::second;
+
 /// The clock that measures.
 #[derive(Clone, Copy, Debug, PartialEq, Eq)]
 pub enum Clock {
@@ -30,8 +32,8 @@ const FEW: usize = 7;
 /// How long a sample takes at least: short calls are repeated within it.
 const SAMPLE: Duration = Duration::from_micros(300);
 
-/// How long the samples of a call may take together before there are no more than a few.
-const ENOUGH: Duration = Duration::from_millis(400);
+/// How many nanoseconds the samples of a call may take together before there are no more than a few.
+const ENOUGH: f64 = 400e6;
 
 /// The time of one call.
 #[derive(Clone, Copy, Debug)]
@@ -42,29 +44,86 @@ pub struct Time {
     pub spread: f64,
 }
 
-/// The times of some calls. Their samples take turns, so that what slows the machine for a while
-/// slows all of them.
-pub fn times<const N: usize>(mut calls: [&mut dyn FnMut(); N]) -> [Time; N] {
+impl Time {
+    /// Where nothing is measured.
+    const NONE: Time = Time {
+        median: 0.0,
+        spread: 0.0,
+    };
+}
+
+/// The times of some calls, of which the first is the library's, and its time in the second build where there is one. Their
+/// samples take turns, so that what slows the machine for a while slows all of them.
+pub fn times<const N: usize>(mut calls: [&mut dyn FnMut(); N]) -> ([Time; N], Option<Time>) {
+    if second::is_this() {
+        calls.iter_mut().for_each(|call| call());
+        let repeats = repeats(calls[0]);
+        second::answer(|| sample_of(calls[0], repeats));
+        return ([Time::NONE; N], None);
+    }
     let repeats = calls.each_mut().map(|call| repeats(call));
-    let mut samples = [(); N].map(|()| Vec::with_capacity(SAMPLES));
-    let mut spent = [Duration::ZERO; N];
+    let mut samples = [(); N].map(|()| Samples::default());
+    let mut before = Samples::default();
     for round in 0..SAMPLES {
         for (i, call) in calls.iter_mut().enumerate() {
-            if round < FEW || spent[i] < ENOUGH {
-                let took = sample(call, repeats[i]);
-                spent[i] += took;
-                samples[i].push(took.as_nanos() as f64 / repeats[i] as f64);
+            samples[i].take(round, || Some(sample_of(call, repeats[i])));
+        }
+        before.take(round, second::sample);
+    }
+    second::done();
+    (
+        samples.map(|all| all.time().expect("it was called")),
+        before.time(),
+    )
+}
+
+/// The samples of one call.
+#[derive(Default)]
+struct Samples {
+    all: Vec<f64>,
+    spent: f64,
+}
+
+impl Samples {
+    /// Takes one more, unless there are enough: nanoseconds of one call, and of all calls of the sample.
+    fn take(&mut self, round: usize, sample: impl FnOnce() -> Option<Sample>) {
+        if round < FEW || self.spent < ENOUGH {
+            if let Some(taken) = sample() {
+                self.spent += taken.all;
+                self.all.push(taken.one);
             }
         }
     }
-    samples.map(|mut all| {
-        all.sort_by(f64::total_cmp);
-        let median = all[all.len() / 2];
-        Time {
+
+    /// Their median and spread, if there are any.
+    fn time(mut self) -> Option<Time> {
+        self.all.sort_by(f64::total_cmp);
+        let median = *self.all.get(self.all.len() / 2)?;
+        let quartiles = self.all[3 * self.all.len() / 4] - self.all[self.all.len() / 4];
+        Some(Time {
             median,
-            spread: (all[3 * all.len() / 4] - all[all.len() / 4]) / median,
-        }
-    })
+            spread: quartiles / median,
+        })
+    }
+}
+
+/// The nanoseconds of one call in a sample, and of the whole sample.
+#[derive(Clone, Copy, Debug)]
+pub struct Sample {
+    /// Of one call.
+    pub one: f64,
+    /// Of all of them.
+    pub all: f64,
+}
+
+/// A sample of so many calls, after one that is not measured: so the caches are as warm for the first as for the others.
+fn sample_of(call: &mut dyn FnMut(), repeats: usize) -> Sample {
+    call();
+    let all = sample(call, repeats).as_nanos() as f64;
+    Sample {
+        one: all / repeats as f64,
+        all,
+    }
 }
 
 /// How often a call is repeated within a sample.
