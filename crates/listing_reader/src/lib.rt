@@ -43,13 +43,14 @@ fn innermost(s: Reader) -> usize
     s.depth - 1
 }
 
-// The default in force.
+// The default in force. It is looked up in the defaults alone, since all that is looked into by an index is copied first.
 pub fn default_of(s: Reader) -> u8
     requires { ⌜ s .depth ≤ 17 ⌝ }
     ensures { λ r. ⌜ InForce s r ⌝ }
 {
     let k = innermost(s);
-    s.defaults[k]
+    let defaults = s.defaults;
+    defaults[k]
 }
 
 // Another default; after the root has closed none is in force, so none changes.

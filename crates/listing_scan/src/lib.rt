@@ -124,7 +124,7 @@ pub fn line_ends(part: &[u8]) -> usize
     ensures { λ r. ⌜ Counted (now (part .entry)) (lineEnds (now (part .entry))) r ⌝ }
 {
     let mut n: usize = 0;
-    let mut i = past_plain(part, 0, 32);
+    let mut i = past_sixteens(part, 0, 32);
     while i < part.len() {
         if part[i] == 10 {
             n += 1;

@@ -128,16 +128,17 @@ fn goal<'a>(
         .iter()
         .reduce(|one, other| if worse(other.1, one.1) { other } else { one });
     let (name, value) = worst.expect("something was measured");
-    let said = if missed == 0 { "met" } else { "missed" };
-    println!(
-        "- {what}: {said}; worst {value:.2} ({name}); {missed} of {} over",
-        all.len()
-    );
+    let said = match missed {
+        0 => "met".into(),
+        _ => format!("missed by {missed} of {} lines", all.len()),
+    };
+    println!("- {what}: {said}; worst {value:.2} ({name})");
 }
 
 /// Prints what the lines say about the goals.
 pub fn goals(lines: &[Line], pairs: &[Pair]) {
-    if lines.iter().any(|line| line.before.is_some()) {
+    let two_builds = lines.iter().any(|line| line.before.is_some());
+    if two_builds {
         shares(lines);
     }
     println!("\n### Goals\n");
@@ -148,6 +149,7 @@ pub fn goals(lines: &[Line], pairs: &[Pair]) {
         small,
     );
     reconciling(lines);
+    reading(lines);
     growing(lines);
     goal(
         "letter case ignored, reconcile of the same tables takes at most 1.6 times as long",
@@ -165,6 +167,15 @@ pub fn goals(lines: &[Line], pairs: &[Pair]) {
             .map(|pair| (pair.shape.clone(), pair.own_spellings())),
         large,
     );
+    if two_builds {
+        let shared = |line: &Line| Some((line.named(), line.share()?));
+        goal(
+            "no call takes more than 1.15 times as long as before",
+            |share| share <= 1.15,
+            lines.iter().filter_map(shared),
+            large,
+        );
+    }
     let spreads = lines.iter().map(|line| line.library.spread);
     println!(
         "\nThe library's quartiles are at most {:.0} % of the median apart.",
@@ -200,6 +211,28 @@ fn reconciling(lines: &[Line]) {
             .filter(|line| line.profile == Profile::Exact)
             .map(|line| (line.named(), line.copies())),
         large,
+    );
+}
+
+/// The goals for reading files, in whatever order they stand.
+fn reading(lines: &[Line]) {
+    let files = |least: usize, most: usize| {
+        lines.iter().filter(move |line| {
+            let files = line.shape.contains("files") || line.shape.contains("bytes");
+            line.call == "read" && files && (least..=most).contains(&line.rows)
+        })
+    };
+    goal(
+        "read of 128 rows of files or more is three times faster than the reference",
+        |ratio| ratio >= 3.0,
+        files(128, usize::MAX).map(|line| (line.named(), line.faster())),
+        small,
+    );
+    goal(
+        "and of 16 two and a half times",
+        |ratio| ratio >= 2.5,
+        files(16, 16).map(|line| (line.named(), line.faster())),
+        small,
     );
 }
 

@@ -19,7 +19,7 @@ abbrev μ-loop : tie.MeasureT-loop
 μ-loop part n₀ i₀ n i = length part - i
 
 loop-holds : tie.Need-loop-holds Inv-loop μ-loop
-loop-holds c = let e = ends-past (c .past-plain .ensures) in (search needs, search needs, omega arith)
+loop-holds c = let e = ends-past (c .past-sixteens .ensures) in (search needs, search needs, omega arith)
 
 loop-again : tie.Need-loop-again Inv-loop μ-loop
 loop-again c =
