@@ -3,9 +3,10 @@ use mathlib.Core.Path.{_≡_, refl, ap, sym, _∙_}
 use mathlib.Core.List.{List, [], _∷_, _++_, map, append-nil, append-assoc}
 use mathlib.Core.Bool.{Bool, true, false, cond}
 use native.Mathlib.Omega.{arith}
+use native.Mathlib.Nat.{zero-add}
 use lib.Dec.{eqb}
-use lib.ListN.{length, take, drop, length-append, length-take, length-drop, take-append-drop}
-use lib.Seq.{take-at, take-take, drop-at, drop-drop}
+use lib.ListN.{length, take, drop, length-append, length-take, length-drop, take-append-drop, drop-of-length-le}
+use lib.Seq.{take-at, take-append-le, drop-at, drop-drop, drop-append-le, drop-append-add}
 use Prim.Native.Nat.{ℕ, zero, suc, _+_, _*_, _/_, _%_, _-_, _≤_, compare, Ordering, Ordering·lt, Ordering·eq, Ordering·gt}
 use Rattle.tree.specs.Name.{Name, byOrder}
 use Rattle.tree.specs.Forest.{Content, Forest, Forest.end, Forest.leaf, Forest.dir, Node.folder}
@@ -18,8 +19,8 @@ use Rattle.table_row.specs.Table.{Row, rowAt, rowsN, rows, flat, depth, 
 use Rattle.table_row.specs.Tree.{fileRow, folderRow, rowsOf, nodeRows, rootName, table, entryOf, siblings, treeOf}
 use Rattle.table_row.specs.Keyed.{keyedRow, keyed}
 use Rattle.table_row.specs.Buffer.{written, over}
-use Rattle.table_row.proofs.Table.{length-rowsN, name-at, tail-part}
-use Rattle.table_row.proofs.Buffer.{written-next}
+use Rattle.table_row.proofs.Table.{length-rowsN}
+use Rattle.table_row.proofs.Buffer.{written-first, written-second}
 use Rattle.table_row.proofs.Flat.{Whole, rows-flat, length-flat, flat-rows, whole-rows}
 use Rattle.table_row.proofs.Tree.{whole-rowsOf}
 
@@ -60,35 +61,8 @@ module _ (p : Profile) where
   unfolding keyed
   rows-keyed w = rows-flat (map (keyedRow p) (rows w)) (whole-keyed (rows w) (all-whole (length w / 20) w (omega arith)))
 
-  -- a row written in three parts, as the code reads them
-  module _ (w d : List ℕ) (i : ℕ) (h : 20 * i + 20 ≤ length w) (g : 20 * i + 20 ≤ length d) where
-    abbrev front : List ℕ
-    front = take (20 * i + 2 - 20 * i) (drop (20 * i) w)
-
-    abbrev middle : List ℕ
-    middle = key p (take (20 * i + 10 - (20 * i + 2)) (drop (20 * i + 2) w))
-
-    abbrev tail : List ℕ
-    tail = take (20 * i + 20 - (20 * i + 10)) (drop (20 * i + 10) w)
-
-    parts : front ++ (middle ++ tail) ≡ keyedRow p (rowAt w i)
-    parts =
-        let a : 20 * i + 2 - 20 * i ≡ 2 = omega arith in
-        let b : 20 * i + 10 - (20 * i + 2) ≡ 8 = omega arith in
-        let c : 2 ≤ 20 = omega arith in
-        rw (a, b, tail-part w i, ← name-at w i, take-take 2 20)
-
-    pub keyed-written : written (written (written d (20 * i) front) (20 * i + 2) middle) (20 * i + 10) tail ≡ written d (20 * i) (keyedRow p (rowAt w i))
-    keyed-written =
-        let x : length front ≡ 2 = simp (length-take, length-drop) (omega arith) in
-        let y : length middle ≡ 8 = length-key p _ ∙ simp (length-take, length-drop) (omega arith) in
-        let z : length (front ++ middle) ≡ 10 = length-append front middle ∙ (omega arith) in
-        let a : written (written d (20 * i) front) (20 * i + 2) middle ≡ written d (20 * i) (front ++ middle) = rw x at (written-next d front middle (20 * i) (omega arith)) in
-        let b : written (written d (20 * i) (front ++ middle)) (20 * i + 10) tail ≡ written d (20 * i) ((front ++ middle) ++ tail) = rw z at (written-next d (front ++ middle) tail (20 * i) (omega arith)) in
-        ap (λ (e : List ℕ). written e (20 * i + 10) tail) a ∙ b ∙ ap (written d (20 * i)) (append-assoc front middle tail ∙ parts)
-
   -- one row more
-  pub keyed-next : (n : ℕ) (w : List ℕ) → flat (map (keyedRow p) (rowsN (suc n) w)) ≡ flat (map (keyedRow p) (rowsN n w)) ++ keyedRow p (rowAt w n)
+  keyed-next : (n : ℕ) (w : List ℕ) → flat (map (keyedRow p) (rowsN (suc n) w)) ≡ flat (map (keyedRow p) (rowsN n w)) ++ keyedRow p (rowAt w n)
   unfolding rowsN flat
   keyed-next zero w = append-nil (keyedRow p (take 20 w))
   keyed-next (suc n) w =
@@ -99,12 +73,54 @@ module _ (p : Profile) where
   length-map [] = refl
   length-map (r ∷ rs) = ap suc (length-map rs)
 
-  pub length-keyedN : (n : ℕ) (w : List ℕ) → 20 * n ≤ length w → length (flat (map (keyedRow p) (rowsN n w))) ≡ 20 * n
+  length-keyedN : (n : ℕ) (w : List ℕ) → 20 * n ≤ length w → length (flat (map (keyedRow p) (rowsN n w))) ≡ 20 * n
   length-keyedN n w h = omega (arith, length-flat (map (keyedRow p) (rowsN n w)) (whole-keyed (rowsN n w) (all-whole n w h)), length-map (rowsN n w), length-rowsN n w)
 
   pub length-keyed : (w : List ℕ) → length w % 20 ≡ 0 → length (keyed p w) ≡ length w
   unfolding keyed
   length-keyed w h = omega (arith, length-keyedN (length w / 20) w (omega arith))
+
+  -- the key of a row's name written into the row, which stands among other words
+  module _ (x r y z : List ℕ) (h : length r ≡ 20) where
+    abbrev all : List ℕ
+    all = x ++ (r ++ y) ++ z
+
+    name-in : take 8 (drop (length x + 2) all) ≡ name r
+    name-in =
+        rw (append-assoc x (r ++ y) z, drop-append-add, append-assoc r y z, drop-append-le 2 r (y ++ z) (omega arith), take-append-le 8 (drop 2 r) (y ++ z) (simp length-drop (omega arith)))
+
+    key-in : written all (length x + 2) (key p (take 8 (drop (length x + 2) all))) ≡ x ++ (keyedRow p r ++ y) ++ z
+    unfolding written
+    key-in =
+        let n = key p (name r) in
+        let e : length n ≡ 8 = length-key p (name r) ∙ simp (length-take, length-drop) (omega arith) in
+        let f : length x + 2 + length n ≤ length (x ++ (r ++ y)) = omega (arith, length-append x (r ++ y), length-append r y) in
+        let g : written r 2 n ≡ keyedRow p r = rw e in
+        rw name-in (written-first (x ++ (r ++ y)) z n (length x + 2) f ∙ rw (written-second x (r ++ y) n (length x + 2) 2 refl, written-first r y n 2 (omega arith), g))
+
+  -- the first n rows keyed and the others as they are, before other words
+  abbrev pub mixed : ℕ → List ℕ → List ℕ → List ℕ
+  mixed n w z = flat (map (keyedRow p) (rowsN n w)) ++ drop (20 * n) w ++ z
+
+  pub mixed-next : (n : ℕ) (w z : List ℕ) → 20 * n + 20 ≤ length w
+      → written (mixed n w z) (20 * n + 2) (key p (take 8 (drop (20 * n + 2) (mixed n w z)))) ≡ mixed (suc n) w z
+  mixed-next n w z h =
+      let x = flat (map (keyedRow p) (rowsN n w)) in
+      let r = rowAt w n in
+      let y = drop (20 * suc n) w in
+      let m : 20 * n + 20 ≡ 20 * suc n = omega arith in
+      let e : drop (20 * n) w ≡ r ++ y = sym (take-append-drop 20 (drop (20 * n) w)) ∙ rw (drop-drop 20 (20 * n) w, m) in
+      let l : length x ≡ 20 * n = length-keyedN n w (omega arith) in
+      let k = key-in x r y z (simp (length-take, length-drop) (omega arith)) in
+      rw (e, keyed-next n w, append-assoc x (keyedRow p r) y) (rw l at k)
+
+  pub mixed-none : (d w : List ℕ) → written d 0 w ≡ mixed 0 w (drop (length w) d)
+  unfolding written rowsN flat
+  mixed-none d w = rw zero-add
+
+  pub mixed-all : (d w : List ℕ) → length w % 20 ≡ 0 → mixed (length w / 20) w (drop (length w) d) ≡ over d (keyed p w)
+  unfolding over keyed
+  mixed-all d w h = rw (drop-of-length-le w {i = 20 * (length w / 20)} (omega arith), append-nil, length-keyed w h)
 
   -- the keys at the start of an array
   pub keys-front : (d w : List ℕ) → length w % 20 ≡ 0 → take (length w) (over d (keyed p w)) ≡ keyed p w

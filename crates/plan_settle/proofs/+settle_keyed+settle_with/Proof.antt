@@ -1,7 +1,7 @@
 -- The cycle of `settle_keyed` and `settle_with`: the first table is keyed and goes on behind the others; the tables left to key
 -- fall.
 use mathlib.Core.Path.{_≡_, sym, ap, _∙_}
-use lib.ListN.{length, take, length-replicate}
+use lib.ListN.{length, take}
 use lib.Seq.{length-take-le}
 use Rattle.tree.specs.declared.Profile.the-variants.{Folded}
 use Rattle.table_row.specs.Keyed.{keyed}
@@ -9,7 +9,7 @@ use Rattle.table_row.proofs.Keyed.{keys-front}
 use Rattle.plan_run.proofs.Turns.{last-turn, turn, three-turned}
 use native.Mathlib.Omega.{arith}
 use borrow.Author.Needs.{needs}
-use Prim.Native.Nat.{ℕ, _<_, _≤_, _+_, _*_}
+use Prim.Native.Nat.{ℕ, _<_, _+_, _*_}
 use borrow.Fn.Kinds.{In}
 use borrow.Fn.PlainCycle.{Measures, is, falls, and}
 use Rattle.plan_settle.proofs.settle_keyed.Reads as settle-keyed

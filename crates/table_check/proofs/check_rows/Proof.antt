@@ -1,10 +1,8 @@
 -- `table_check::check_rows` meets its contract: row 0 first, then the rows after it.
 use mathlib.Core.Path.{_≡_, sym, _∙_}
 use lib.Seq.{length-take-le}
-use native.Mathlib.Omega.{arith}
 use borrow.Author.Needs.{needs}
 use Rattle.tree.proofs.Never.{never}
-use Rattle.table_rules.specs.Keyed.{okRowIn}
 use Rattle.table_rules.specs.declared.Checked.the-variants.{Fine, BadRow}
 use Rattle.table_check.proofs.Last.{root-fails}
 use Rattle.table_check.proofs.check_rows.Statement.{statement}

@@ -1,7 +1,6 @@
 -- `table_check::row_fit` meets its contract: the rules in turn; the first that fails answers.
 use mathlib.Core.Path.{_≡_, sym, _∙_}
 use native.Mathlib.Omega.{arith}
-use lib.ListN.{getD}
 use Prim.Native.Nat.{_-_, _≤_}
 use borrow.Author.Needs.{needs}
 use Rattle.table_row.specs.Table.{rowAt, depth}

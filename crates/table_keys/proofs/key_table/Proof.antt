@@ -1,57 +1,50 @@
--- `table_keys::key_table` meets its contract: the rows before row i are written.
-use mathlib.Core.Path.{_≡_, sym, ap, _∙_}
-use mathlib.Core.List.{map}
+-- `table_keys::key_table` meets its contract: the rows before row i have their keys, and those from it on are copied.
+use mathlib.Core.Path.{_≡_, ap, _∙_}
 use native.Mathlib.Numerals.{add-one}
-use lib.ListN.{length}
-use Prim.Native.Nat.{_*_, _/_, _-_, _≤_}
+use lib.ListN.{length, take, drop}
+use Prim.Native.Nat.{_+_, _*_, _/_, _-_, _≤_}
 use Rattle.tree.specs.declared.Profile.the-variants.{Folded}
-use Rattle.table_row.specs.Table.{rowAt, rowsN, flat}
-use Rattle.table_row.specs.Buffer.{written, over}
-use Rattle.table_row.specs.Keyed.{keyedRow, keyed}
-use Rattle.table_row.proofs.Buffer.{over-nil, over-written}
-use Rattle.table_row.proofs.Keyed.{keyed-next, length-keyedN}
+use Rattle.tree.specs.Key.{key}
+use Rattle.table_row.specs.Buffer.{written}
+use Rattle.table_row.proofs.Buffer.{past-written}
+use Rattle.table_row.proofs.Keyed.{mixed, mixed-none, mixed-next, mixed-all}
 use borrow.Author.Needs.{needs}
 use Rattle.table_keys.proofs.key_table.Statement.{statement}
 use Rattle.table_keys.proofs.key_table.Tie as tie
 
 abbrev Inv-loop : tie.InvT-loop
-Inv-loop t out₀ n i₀ out i = (i ≤ n) × (length out ≡ length out₀) × (out ≡ over out₀ (flat (map (keyedRow Folded) (rowsN i t))))
+Inv-loop t out₀ n i₀ out i = (i ≤ n) × (length out ≡ length out₀) × (out ≡ mixed Folded i t (drop (length t) out₀))
 
 abbrev μ-loop : tie.MeasureT-loop
 μ-loop t out₀ n i₀ out i = n - i
 
 loop-holds : tie.Need-loop-holds Inv-loop μ-loop
-unfolding rowsN flat
-loop-holds c = (search needs, search needs, sym (over-nil (c .before .before .args .out .now)))
+loop-holds c =
+    let w = c .before .before in
+    let a = w .before .before .before .before .args in
+    (search needs, search needs, rw (w .copy-words .ensures .1, past-written (a .out .now) (a .t .now)) (mixed-none Folded (a .out .now) (a .t .now)))
 
 loop-again : tie.Need-loop-again Inv-loop μ-loop
-unfolding rowsN flat
+unfolding key
 loop-again c =
     let l = c .before .before .before .before .before in
-    let a = l .before .before .before .args in
-    let t = a .t .now in
-    let i = l .loop .i in
-    let w = flat (map (keyedRow Folded) (rowsN i t)) in
-    let n : length w ≡ 20 * i = length-keyedN Folded i t (search needs) in
-    let e = c .before .before .key-row .ensures in
-    let r = keyedRow Folded (rowAt t i) in
-    let o = a .out .now in (
+    let w = l .before .before .before in
+    let a = w .before .before .before .before .args in
+    let i = l .loop .i in (
       search needs,
       search needs,
-      e ∙ ap (λ d. written d (20 * i) r) (l .loop .inv .2) ∙ ap (λ k. written (over o w) k r) (sym n) ∙ over-written o w r
-          ∙ rw add-one (ap (over o) (sym (keyed-next Folded i t))),
+      c .before .before .lower-name .ensures
+          ∙ ap (λ d. written d (20 * i + 2) (key Folded (take 8 (drop (20 * i + 2) d)))) (l .loop .inv .2)
+          ∙ rw add-one (mixed-next Folded i (a .t .now) _ (search needs)),
     )
 
-same-length : tie.Need-same-length Inv-loop μ-loop
-same-length c = c .before .loop .inv .1
-
 returns : tie.Need-returns Inv-loop μ-loop
-unfolding keyed
 returns c =
     let l = c .before in
-    let a = l .before .before .before .args in
+    let w = l .before .before .before in
+    let a = w .before .before .before .before .args in
     let e : l .loop .i ≡ length (a .t .now) / 20 = search needs in
-    l .loop .inv .2 ∙ rw e
+    l .loop .inv .2 ∙ rw (w .copy-words .ensures .1, past-written (a .out .now) (a .t .now), e) (mixed-all Folded (a .out .now) (a .t .now) (search needs))
 
 pub key-table-spec : {M : Type 1} → statement M
 key-table-spec =
@@ -59,10 +52,13 @@ key-table-spec =
     (tie.spec
     Inv-loop
     μ-loop
+    (λ c κs. search needs)
     loop-holds
+    (λ c. search needs)
+    (λ c. search needs)
     (λ c κs. search needs)
     (λ c. search needs)
     (λ c. search needs)
     loop-again
-    same-length
+    (λ c. search needs)
     returns)
