@@ -1,12 +1,12 @@
--- `plan_carry_out::with_plan` meets its contract: the plan is long enough, the rooms are tried, and what is written is the outcome.
+-- `plan_lent::with_plan` meets its contract: the plan is long enough, the rooms are tried, and what is written is the outcome.
 use native.Mathlib.Omega.{arith}
 use borrow.Author.Needs.{needs}
 use Rattle.table_rules.proofs.Passed.{passed-some}
 use Rattle.plan_run.specs.Run.{lent}
 use Rattle.plan_run.proofs.Planned.{Sound, three, settled-fits, items-fit, items-most}
 use Rattle.plan_run.proofs.Steps.{Tried, spacious, entries, settles-accepted, settles-refused}
-use Rattle.plan_carry_out.proofs.with_plan.Statement.{statement}
-use Rattle.plan_carry_out.proofs.with_plan.Tie as tie
+use Rattle.plan_lent.proofs.with_plan.Statement.{statement}
+use Rattle.plan_lent.proofs.with_plan.Tie as tie
 
 module _ (w : tie.After-shared-slice-known3) where
   abbrev s : tie.Start
