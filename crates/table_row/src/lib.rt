@@ -28,21 +28,34 @@ pub fn wide(x: u32) -> usize
     x as usize
 }
 
-// Whether two lists of words are the same.
+// Whether two lists of words are the same, from the last word back: rows of one folder have names that begin alike, and
+// digests that do not.
 pub fn same_words(a: &[u32], b: &[u32]) -> bool
     ensures { λ r. ⌜ r ≡ sameWords (now (a .entry)) (now (b .entry)) ⌝ }
 {
     if a.len() != b.len() {
         return false;
     }
-    let mut k = 0;
-    while k < a.len() {
+    let mut k = a.len();
+    while k > 0 {
+        k -= 1;
         if a[k] != b[k] {
             return false;
         }
-        k += 1;
     }
     true
+}
+
+// Whether row i of a and row j of b are the same.
+pub fn same_rows(a: &[u32], i: usize, b: &[u32], j: usize) -> bool
+    requires { ⌜ (20 * i + 20 ≤ length (now a)) × (20 * j + 20 ≤ length (now b)) ⌝ }
+    ensures { λ r. ⌜ r ≡ sameWords (rowAt (now (a .entry)) i) (rowAt (now (b .entry)) j) ⌝ }
+{
+    let p = 20 * i;
+    let pe = p + 20;
+    let q = 20 * j;
+    let qe = q + 20;
+    same_words(&a[p..pe], &b[q..qe])
 }
 
 // All of src into dst at place at; the next place.

@@ -47,15 +47,8 @@ pub fn library_reconcile(
     black_box(counts).expect("there is room");
 }
 
-/// A reconciliation of three trees.
-pub fn reconcile(
-    rng: &mut Random,
-    profile: Profile,
-    shape: Shape,
-    change: Change,
-    rows: usize,
-) -> Line {
-    let tables = generate::changed(rng, profile, shape, rows, change).tables();
+/// A reconciliation of three tables, of which the first has as many rows as any.
+pub fn reconcile(profile: Profile, shape: String, tables: [Vec<u32>; 3]) -> Line {
     let [archive, left, right] = &tables;
     let outcome = reference::reconcile(profile, archive, left, right, Rooms::AMPLE)
         .expect("what one side changes keeps its rows");
@@ -81,9 +74,9 @@ pub fn reconcile(
     Line {
         profile,
         call: "reconcile",
-        shape: named(shape, &format!("{change:?}").to_lowercase()),
-        rows,
-        all_rows: 3 * rows,
+        shape,
+        rows: tables[0].len() / ROW,
+        all_rows: tables.iter().map(|table| table.len() / ROW).sum(),
         library,
         before,
         reference,

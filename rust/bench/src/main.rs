@@ -6,6 +6,7 @@
 
 mod beside;
 mod calls;
+mod days;
 mod inputs;
 mod report;
 mod second;
@@ -63,10 +64,17 @@ impl Bench {
         for shape in SHAPES {
             for change in CHANGES {
                 for rows in SIZES {
-                    let line = calls::reconcile(&mut self.rng, profile, shape, change, rows);
-                    self.take(line);
+                    let trees = generate::changed(&mut self.rng, profile, shape, rows, change);
+                    let named = named(shape, &format!("{change:?}").to_lowercase());
+                    self.take(calls::reconcile(profile, named, trees.tables()));
                 }
             }
+        }
+        report::head(profile, "Reconcile: days whose names begin alike");
+        let (root, folder) = (days::in_the_root(profile), days::in_a_folder(profile));
+        for (differs, trees) in root.into_iter().chain(folder) {
+            let tables = trees.each_ref().map(reference::table);
+            self.take(calls::reconcile(profile, differs.into(), tables));
         }
         report::head(profile, "Move, rows to carry and check");
         for shape in SHAPES {

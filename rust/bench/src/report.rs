@@ -196,7 +196,7 @@ fn reconciling(lines: &[Line]) {
     let reconciled = || {
         lines
             .iter()
-            .filter(|line| line.call == "reconcile" && line.rows == 4096)
+            .filter(|line| line.call == "reconcile" && line.all_rows == 3 * 4096)
     };
     goal(
         "reconcile of three times 4,096 rows is five times faster than the reference",

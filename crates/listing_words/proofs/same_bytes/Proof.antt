@@ -22,7 +22,7 @@ same-bytes-spec =
     (λ c. search needs)
     (λ c. search needs)
     (λ c. search needs)
-    (λ c. alike-differ (c .before .before .before .before .loop .inv) (c .if2 .taken))
+    (λ c. alike-differ _ _ _ (c .if2 .taken))
     (λ c. search needs)
     (λ c. search needs)
     (λ c. alike-next (c .before .before .before .before .loop .inv) (search needs) (search needs) (c .if2 .left))
