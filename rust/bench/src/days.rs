@@ -6,11 +6,12 @@ use reference::{Entries, Node, Profile};
 
 /// What every name begins with; four digits follow.
 const BEGIN: &str = "left-ear-hours-of-wearing-on";
+const _: () = assert!(BEGIN.len() == 28);
 
 /// Archive, left and right, and how they differ.
 type Given = (&'static str, [Node; 3]);
 
-/// A day that was corrected at random.
+/// A day with a digest at random.
 fn day(rng: &mut Random) -> Node {
     Node::File {
         size: 1440,
