@@ -1,8 +1,10 @@
-//! Reconciling: related trees, all rooms around the exact ones, large trees and the limits.
+//! Reconciling: related trees, all rooms around the exact ones, large trees and the limits, and rows that differ in one word.
 
 use compare::{both, Case, Tried};
 use reference::generate::{self, Three};
-use reference::{Entries, Node, Outcome, Profile, Rooms, MOST_ROWS, ROW};
+use reference::{
+    Entries, Node, Outcome, Profile, Rooms, CLASH, MOST_ROWS, NO_ROW, RIGHT_GETS, ROW,
+};
 
 const UNITS: [usize; 4] = [ROW, ROW, ROW, 3];
 
@@ -199,4 +201,50 @@ fn results_at_the_limit() {
         ],
         &[],
     );
+}
+
+/// The words by which a row may differ from another with its name and kind: the depth, and those of size and digest.
+const WORDS: [usize; 11] = [0, 10, 11, 12, 13, 14, 15, 16, 17, 18, 19];
+
+/// Two folders that differ in one row, and there in this word alone.
+fn apart(case: &mut Case, word: usize) -> [Node; 2] {
+    let files = 1 + case.rng.below(40);
+    let folder = pile(case, 1 + files);
+    if word == 0 {
+        let below = tree(case, [("z", Node::default())]);
+        let mut pair = [folder.clone(), folder];
+        pair[0].put(&[case.profile.name(b"y")], Some(below));
+        pair[1].put(&[case.profile.name(b"y")], Some(Node::default()));
+        pair[1].put(&[case.profile.name(b"z")], Some(Node::default()));
+        return pair;
+    }
+    let mut table = reference::table(&folder);
+    table[ROW * (1 + case.rng.below(files)) + word] ^= 1 << case.rng.below(32);
+    let other = reference::check(case.profile, &table).expect("another size or digest");
+    [folder, other]
+}
+
+/// A folder that the left has no more goes on the right too, and clashes where one word of one row differs from the archive's.
+#[test]
+fn every_word_counts() {
+    let mut tried = Tried::new("every word counts");
+    tried.cases(1_400_000, 880, |case| {
+        let word = case.rng.pick(&WORDS);
+        let [one, other] = apart(case, word);
+        for (archive, right, due) in [(&one, &one, RIGHT_GETS), (&one, &other, CLASH)] {
+            let three = Three {
+                archive: tree(case, [("p", archive.clone())]),
+                left: Node::default(),
+                right: tree(case, [("p", right.clone())]),
+            };
+            let tables = three.tables();
+            let run = both::reconcile(case, parts(&tables), enough(&tables));
+            if run.map(|run| run.list) != Some(vec![[due, NO_ROW, 1]]) {
+                case.fail(&format!("kind {due} is due for word {word}"));
+            }
+        }
+        case.saw(&format!("word {word}"));
+    });
+    let seen = WORDS.map(|word| format!("word {word}"));
+    tried.end(&seen.each_ref().map(|word| (word.as_str(), 20)), &[]);
 }
