@@ -28,8 +28,8 @@ pub fn wide(x: u32) -> usize
     x as usize
 }
 
-// Whether two lists of words are the same, from the last word back: rows of one folder have names that begin alike, and
-// digests that do not.
+// Whether two lists of words are the same, from the last word back: a day and its correction have one name and differ in
+// the digest, which stands last.
 pub fn same_words(a: &[u32], b: &[u32]) -> bool
     ensures { λ r. ⌜ r ≡ sameWords (now (a .entry)) (now (b .entry)) ⌝ }
 {
