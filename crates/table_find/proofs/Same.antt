@@ -1,4 +1,4 @@
--- Subtrees compared row by row: some rows from a row on, one row of a subtree, and what one row more or one that differs says.
+-- Two subtrees compared row by row: one row more that is the same, and each way in which they can be told to be the same or not.
 use mathlib.Core.Path.{_≡_, refl, sym, ap, _∙_}
 use mathlib.Core.List.{List, [], _++_}
 use mathlib.Core.Bool.{Bool, true, false, false≢true}
@@ -14,24 +14,21 @@ use Rattle.table_row.specs.Table.{rowAt}
 use Rattle.table_row.proofs.Table.{drop-take}
 use Rattle.table_row.proofs.Compare.{alike-lengths}
 use Rattle.table_find.specs.Subtree.{endOf, subtree}
-use Rattle.table_find.proofs.Walk.{subtree-none}
+use Rattle.table_find.proofs.Walk.{part-length, subtree-none}
 
 -- n rows from row i on
 abbrev pub block : List ℕ → ℕ → ℕ → List ℕ
 block w i n = take (20 * n) (drop (20 * i) w)
 
 module _ (w : List ℕ) (i : ℕ) where
+  row-on : (k : ℕ) → rowAt (drop (20 * i) w) k ≡ rowAt w (i + k)
+  row-on k = let e : 20 * i + 20 * k ≡ 20 * (i + k) = omega arith in rw (drop-drop, e)
+
   block-more : (k : ℕ) → block w i (k + 1) ≡ block w i k ++ rowAt w (i + k)
-  block-more k =
-      let e : 20 * (k + 1) ≡ 20 * k + 20 = omega arith in
-      let f : 20 * i + 20 * k ≡ 20 * (i + k) = omega arith in
-      rw (e, take-add (20 * k) 20, drop-drop, f)
+  block-more k = let e : 20 * (k + 1) ≡ 20 * k + 20 = omega arith in rw (e, take-add (20 * k) 20, row-on k)
 
   subtree-block : subtree w i ≡ block w i (endOf w i - i)
   subtree-block = let e : 20 * endOf w i - 20 * i ≡ 20 * (endOf w i - i) = omega arith in rw e
-
-  subtree-length : 20 * endOf w i ≤ length w → length (subtree w i) ≡ 20 * (endOf w i - i)
-  subtree-length h = simp (length-take, length-drop) (omega arith)
 
   subtree-some : 20 * (i + 1) ≤ length w → 20 ≤ length (subtree w i)
   subtree-some h = simp (length-take, length-drop) (omega arith)
@@ -41,9 +38,8 @@ module _ (w : List ℕ) (i : ℕ) where
   subtree-row k h =
       let n = 20 * endOf w i - 20 * (i + k) in
       let e : 20 * endOf w i - 20 * i ≡ 20 * k + n = omega arith in
-      let f : 20 * i + 20 * k ≡ 20 * (i + k) = omega arith in
       let g : 20 ≤ n = omega arith in
-      rw (e, drop-take (20 * k) n, take-take 20 n _ g, drop-drop, f)
+      rw (e, drop-take (20 * k) n, take-take 20 n _ g, row-on k)
 
 module _ (w : List ℕ) (i : ℕ) (v : List ℕ) (j : ℕ) where
   -- one row more that is the same
@@ -65,7 +61,8 @@ module _ (w : List ℕ) (i : ℕ) (v : List ℕ) (j : ℕ) where
 
   -- not as many rows
   pub subtrees-uneven : 20 * endOf w i ≤ length w → 20 * endOf v j ≤ length v → (endOf w i - i ≡ endOf v j - j → ⊥) → false ≡ sameWords (subtree w i) (subtree v j)
-  subtrees-uneven h g d = alike-lengths _ _ (λ e. d (omega (arith, e, subtree-length w i h, subtree-length v j g)))
+  subtrees-uneven h g d =
+      alike-lengths _ _ (λ e. d (omega (arith, e, part-length w i (endOf w i) (omega arith) h, part-length v j (endOf v j) (omega arith) g)))
 
   -- the other is not there
   pub subtrees-one : 20 * (i + 1) ≤ length w → length v % 20 ≡ 0 → length v / 20 ≤ j → false ≡ sameWords (subtree w i) (subtree v j)

@@ -1,10 +1,10 @@
--- Runs and searches at the rows from a row on, in the words that the code reads.
+-- Runs and searches at the rows from a row on, in the words that the code reads, and the part that it lends.
 use mathlib.Core.Path.{_≡_}
 use mathlib.Core.List.{List, []}
 use mathlib.Core.Bool.{Bool, true, false}
 use native.Mathlib.Omega.{arith}
 use native.Mathlib.Numerals.{add-one}
-use lib.ListN.{length, drop, getD, drop-of-length-le}
+use lib.ListN.{length, take, drop, getD, drop-of-length-le, length-take, length-drop}
 use lib.Seq.{take-nil}
 use Prim.Native.Nat.{ℕ, suc, _+_, _*_, _-_, _/_, _%_, _≤_, _<_}
 use borrow.Author.Tests.{lt-ltb, le-ltb, eq-eqb, ne-eqb}
@@ -57,6 +57,10 @@ module _ (p : Name → Bool) (w : List ℕ) (d i : ℕ) where
           let g : d < getD w (20 * i) 0 = omega arith in
           let q : getD w (20 * i) 0 ≡ suc d = omega arith in
           rw (rows-cons w i h, depth-at, lt-ltb _ _ g, eq-eqb _ _ q, s)
+
+-- the rows from row i up to row e, as the part that code lends
+pub part-length : (w : List ℕ) (i e : ℕ) → i ≤ e → 20 * e ≤ length w → length (take (20 * e - 20 * i) (drop (20 * i) w)) ≡ 20 * e - 20 * i
+part-length w i e h k = simp (length-take, length-drop) (omega arith)
 
 pub subtree-none : (w : List ℕ) (i : ℕ) → length w % 20 ≡ 0 → length w / 20 ≤ i → subtree w i ≡ []
 subtree-none w i m h = rw (drop-of-length-le w {i = 20 * i} (omega arith)) (simp take-nil)

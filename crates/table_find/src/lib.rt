@@ -1,8 +1,8 @@
 // Where a row's subtree ends, its words, and whether two subtrees are the same.
 ghost use mathlib.Core.Path.{_≡_};
+ghost use mathlib.Core.Bool.{true};
 ghost use Prim.Native.Nat.{_+_, _*_, _%_, _≤_};
 ghost use lib.ListN.{length};
-ghost use mathlib.Core.Bool.{true};
 ghost use Rattle.tree.specs.Same.{sameWords};
 ghost use Rattle.table_row.specs.Table.{rowAt};
 ghost use Rattle.table_find.specs.Subtree.{endOf, subtree};
@@ -46,7 +46,7 @@ pub fn part(t: &[u32], i: u32) -> &[u32]
     }
 }
 
-// Whether the subtrees at row i of w and row j of v, two like rows, are the same: as many rows, and each like the other's.
+// Whether the subtrees at row i of w and row j of v are the same where these rows are: as many rows, and each the same.
 fn same_below(w: &[u32], i: usize, v: &[u32], j: usize) -> bool
     requires { ⌜ (20 * (i + 1) ≤ length (now w)) × (20 * (j + 1) ≤ length (now v)) × (sameWords (rowAt (now w) i) (rowAt (now v) j) ≡ true) ⌝ }
     ensures { λ r. ⌜ r ≡ sameWords (subtree (now (w .entry)) i) (subtree (now (v .entry)) j) ⌝ }

@@ -3,7 +3,7 @@ use mathlib.Core.Path.{_≡_, refl, sym, subst, _∙_}
 use mathlib.Core.List.{List, []}
 use native.Mathlib.Omega.{arith}
 use native.Mathlib.Numerals.{add-one, sub-one}
-use lib.ListN.{length, take, drop, getD, length-take, length-drop}
+use lib.ListN.{length, take, drop, getD}
 use lib.Seq.{drop-cons}
 use Prim.Native.Nat.{ℕ, zero, suc, _+_, _*_, _-_, _≤_, _<_}
 use Rattle.tree.specs.Name.{Name}
@@ -11,14 +11,11 @@ use Rattle.table_find.specs.declared.Found.{Found}
 use Rattle.table_find.specs.declared.Found.the-variants.{At, Nothing}
 use Rattle.table_find.specs.Subtree.{endOf, subtree}
 use Rattle.table_find.specs.Entry.{child, Inside, Finds}
+use Rattle.table_find.proofs.Walk.{part-length}
 use Rattle.table_follow.specs.Follow.{further, onward, follow}
 
 pub inside-at : (w : List ℕ) (r : Found) (i : ℕ) → r ≡ At i → Inside w r → 20 * (i + 1) ≤ length w
 inside-at w r i e h = subst (Inside w) e h
-
--- the part of w from row i to row e
-pub part-length : (w : List ℕ) (i e : ℕ) → i ≤ e → 20 * e ≤ length w → length (take (20 * e - 20 * i) (drop (20 * i) w)) ≡ 20 * e - 20 * i
-part-length w i e h k = simp (length-take, length-drop) (omega arith)
 
 inside-further : (w : List ℕ) (i z : ℕ) (x : Found) → i ≤ z → 20 * z ≤ length w → Inside (take (20 * z - 20 * i) (drop (20 * i) w)) x → Inside w (further i x)
 inside-further w i z (At k) h l g = omega (arith, part-length w i z h l)

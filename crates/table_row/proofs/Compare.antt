@@ -1,4 +1,4 @@
--- Comparing and testing word by word, from word k on.
+-- Comparing word by word, from word k on and from the back.
 use mathlib.Core.Path.{_≡_, ap, sym, _∙_}
 use mathlib.Core.List.{List}
 use mathlib.Core.Bool.{true, false}

@@ -5,7 +5,8 @@ use Prim.Native.Nat.{ℕ, _<_}
 use borrow.Author.Needs.{needs}
 use borrow.Fn.Kinds.{In}
 use borrow.Fn.PlainCycle.{Measures, is, falls, and}
-use Rattle.table_follow.proofs.Follow.{inside-at, part-length, follow-none, follow-lost, follow-on}
+use Rattle.table_find.proofs.Walk.{part-length}
+use Rattle.table_follow.proofs.Follow.{inside-at, follow-none, follow-lost, follow-on}
 use Rattle.table_follow.proofs.+lookup.{statement}
 use Rattle.table_follow.proofs.+lookup.Tie.{close}
 use Rattle.table_follow.proofs.lookup.Reads as lookup
