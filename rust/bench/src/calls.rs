@@ -51,7 +51,7 @@ pub fn library_reconcile(
 pub fn reconcile(profile: Profile, shape: String, tables: [Vec<u32>; 3]) -> Line {
     let [archive, left, right] = &tables;
     let outcome = reference::reconcile(profile, archive, left, right, Rooms::AMPLE)
-        .expect("what one side changes keeps its rows");
+        .expect("no result has too many rows");
     let (mut ours, mut theirs, mut copied) = (exact(&outcome), exact(&outcome), exact(&outcome));
     let ([library, reference, copy], before) = times([
         &mut || library_reconcile(profile, &tables, &mut ours),
