@@ -32,7 +32,7 @@ next-most n b = go (eqb b 10)
 run-line : (p : Profile) (most n k : ℕ) (bs : List ℕ) (s : State) → lineOf (run p most (linesFrom n k bs) s) ≤ n + length bs
 unfolding lineOf run linesFrom
 run-line p most n k [] (before d) = omega arith
-run-line p most n k [] (inside f q ds) = omega arith
+run-line p most n k [] (inside f q v) = omega arith
 run-line p most n k [] (closed f) = omega arith
 run-line p most n (suc k) (b ∷ bs) s = omega (arith, run-line p most (next n b) k bs s, next-most n b)
 run-line p most n zero (b ∷ bs) s =

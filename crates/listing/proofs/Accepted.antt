@@ -16,7 +16,7 @@ use Rattle.listing.specs.Lines.{Line, lines}
 use Rattle.listing.specs.Words.{Words, isText, words}
 use Rattle.listing.specs.Names.{isName, nameOf}
 use Rattle.listing.specs.Entries.{Said.none, Entry, Entry.faulty, Entry.holds, Said, entryOf, typeIn}
-use Rattle.listing.specs.Reading.{Outcome, Outcome.accepted, Outcome.refused, State, State.before, State.closed, State.inside, Step, Step.goes, Step.stops, ended, entered, entryLine, hasForm, inForce, lineDoes, mostRows, onStep, reading, run, wordsDo}
+use Rattle.listing.specs.Reading.{Outcome, Outcome.accepted, Outcome.refused, State, State.before, State.closed, State.inside, Step, Step.goes, Step.stops, ended, entered, entryLine, hasForm, lineDoes, mostRows, onStep, reading, run, wordsDo}
 use Rattle.listing.proofs.Ruled.{name-rule}
 use Rattle.listing.proofs.Entered.{good-placed, one-row}
 use Rattle.listing.proofs.Kept.{GoodEntry, entry-good, good-closing, good-cond, good-root, good-slash}
@@ -26,18 +26,18 @@ GoodOutcome p most (refused n line) = Unit {0}
 GoodOutcome p most (accepted f) = Fit p most f
 
 module _ (p : Profile) (most : ℕ) where
-  good-entered : (n : Name) (x : Entry) (f : Forest) (q : TreePath) (ds : List Said) → NameRule n → GoodEntry x → Inside p most f q ds
-      → GoodStep p most (entered p most n x f q ds)
-  good-entered n (faulty k) f q ds rule g h = tt
-  good-entered n (holds x) f q ds rule g h = good-placed p most n x f q ds rule (one-row x g) h
+  good-entered : (n : Name) (x : Entry) (f : Forest) (q : TreePath) (d : Said) → NameRule n → GoodEntry x → Inside p most f q
+      → GoodStep p most (entered p most n x f q d)
+  good-entered n (faulty k) f q d rule g h = tt
+  good-entered n (holds x) f q d rule g h = good-placed p most n x f q d rule (one-row x g) h
 
   good-entry : (w : List ℕ) (ws : Words) (s : State) → GoodState p most s → GoodStep p most (entryLine p most w ws s)
   unfolding entryLine entryOf
   good-entry w ws (before d) h = tt
-  good-entry w ws (inside f q ds) h = go (isName w) refl
+  good-entry w ws (inside f q d) h = go (isName w) refl
     where
-      go : (t : Bool) → isName w ≡ t → GoodStep p most (cond t (entered p most (nameOf w) (entryOf (inForce ds) ws) f q ds) (stops 8))
-      go true e = good-entered (nameOf w) (entryOf (inForce ds) ws) f q ds (name-rule w e) (entry-good (typeIn (inForce ds) ws) ws) h
+      go : (t : Bool) → isName w ≡ t → GoodStep p most (cond t (entered p most (nameOf w) (entryOf d ws) f q d) (stops 8))
+      go true e = good-entered (nameOf w) (entryOf d ws) f q d (name-rule w e) (entry-good (typeIn d ws) ws) h
       go false e = tt
   good-entry w ws (closed f) h = tt
 
@@ -54,7 +54,7 @@ module _ (p : Profile) (most : ℕ) where
 
   good-end : (s : State) → GoodState p most s → GoodOutcome p most (ended s)
   good-end (before d) h = tt
-  good-end (inside f q ds) h = h .fit
+  good-end (inside f q d) h = h .fit
   good-end (closed f) h = h
 
   good-run : (ls : List Line) (s : State) → GoodState p most s → GoodOutcome p most (run p most ls s)

@@ -1,6 +1,6 @@
 -- An entry put into the folder last opened keeps what is known of the state.
 use mathlib.Core.Bool.{Bool, cond, false, false≢true, true}
-use mathlib.Core.List.{List, [], _++_, _∷_}
+use mathlib.Core.List.{[], _++_, _∷_}
 use mathlib.Core.Path.{_∙_, _≡_, ap, refl}
 use native.Mathlib.Omega.{arith}
 use lib.Dec.{leb, ltb}
@@ -20,7 +20,7 @@ use Rattle.tree.proofs.Folds.{size-fold}
 use Rattle.tree.proofs.Spots.{fold-put-last, path-append, putIn-folder, within-putIn}
 use Rattle.listing.specs.Accepted.{Fit, GoodState, GoodStep, Inside, IsFolder}
 use Rattle.listing.specs.Entries.{Entry.holds, Said}
-use Rattle.listing.specs.Reading.{Step.goes, Step.stops, atKey, inForce, isAbsent, opened, placed}
+use Rattle.listing.specs.Reading.{Step.goes, Step.stops, atKey, isAbsent, opened, placed}
 use Rattle.listing.proofs.Parent.{folder-above, parent-last}
 use Rattle.listing.proofs.Kept.{GoodEntry, all-last}
 
@@ -45,8 +45,8 @@ is-absent (file c) e = absurd (false≢true e)
 is-absent (folder k) e = absurd (false≢true e)
 
 -- an entry of a free name, put into the folder last opened: by key it is put into the tree of keys
-module _ (p : Profile) (most : ℕ) (n : Name) (x : Node) (f : Forest) (q : TreePath) (ds : List Said)
-    (rule : NameRule n) (row : OneRow x) (h : Inside p most f q ds)
+module _ (p : Profile) (most : ℕ) (n : Name) (x : Node) (f : Forest) (q : TreePath)
+    (rule : NameRule n) (row : OneRow x) (h : Inside p most f q)
     (less : length q < 16) (free : atKey p f (q ++ (n ∷ [])) ≡ absent) (room : suc (size f) < most) where
   path : TreePath
   path = q ++ (n ∷ [])
@@ -95,40 +95,38 @@ module _ (p : Profile) (most : ℕ) (n : Name) (x : Node) (f : Forest) (q : Tree
   fit-new : Fit p most grown
   fit-new = record { good = record { sorted = sorted-new; within = within-new }; room = size-new }
 
-  good-file : Inside p most grown q ds
+  good-file : Inside p most grown q
   unfolding keys
   good-file =
-      record { fit = fit-new; here = folder-above (foldPath p q) (key p n) (folder (fold p grown)) (rw at-new (row .there)); named = h .named; deep = h .deep; each = h .each }
+      record { fit = fit-new; here = folder-above (foldPath p q) (key p n) (folder (fold p grown)) (rw at-new (row .there)); named = h .named; deep = h .deep }
 
-  good-folder : IsFolder x → Inside p most grown path (ds ++ (inForce ds ∷ []))
+  good-folder : IsFolder x → Inside p most grown path
   unfolding path
   good-folder folders =
-      let each = h .each in
       record {
         fit = fit-new;
         here = rw (keys-path, at-new) folders;
         named = all-path;
         deep = omega (arith, length-append q (n ∷ []));
-        each = omega (arith, length-append q (n ∷ []), length-append ds (inForce ds ∷ []));
       }
 
-good-opened : (p : Profile) (most : ℕ) (n : Name) (x : Node) (f : Forest) (q : TreePath) (ds : List Said) → NameRule n → OneRow x → Inside p most f q ds
+good-opened : (p : Profile) (most : ℕ) (n : Name) (x : Node) (f : Forest) (q : TreePath) (d : Said) → NameRule n → OneRow x → Inside p most f q
     → length q < 16 → atKey p f (q ++ (n ∷ [])) ≡ absent → suc (size f) < most
-    → GoodState p most (opened n x (kids (putIn p (q ++ (n ∷ [])) x (folder f))) q ds)
+    → GoodState p most (opened n x (kids (putIn p (q ++ (n ∷ [])) x (folder f))) q d)
 unfolding grown path
-good-opened p most n absent f q ds rule row h less free room = absurd (row .there)
-good-opened p most n (file c) f q ds rule row h less free room = good-file p most n (file c) f q ds rule row h less free room
-good-opened p most n (folder k) f q ds rule row h less free room = good-folder p most n (folder k) f q ds rule row h less free room tt
+good-opened p most n absent f q d rule row h less free room = absurd (row .there)
+good-opened p most n (file c) f q d rule row h less free room = good-file p most n (file c) f q rule row h less free room
+good-opened p most n (folder k) f q d rule row h less free room = good-folder p most n (folder k) f q rule row h less free room tt
 
-pub good-placed : (p : Profile) (most : ℕ) (n : Name) (x : Node) (f : Forest) (q : TreePath) (ds : List Said) → NameRule n → OneRow x → Inside p most f q ds
-    → GoodStep p most (placed p most n x f q ds)
+pub good-placed : (p : Profile) (most : ℕ) (n : Name) (x : Node) (f : Forest) (q : TreePath) (d : Said) → NameRule n → OneRow x → Inside p most f q
+    → GoodStep p most (placed p most n x f q d)
 unfolding placed
-good-placed p most n x f q ds rule row h =
+good-placed p most n x f q d rule row h =
     go (leb 16 (length q)) (isAbsent (atKey p f (q ++ (n ∷ [])))) (ltb (suc (size f)) most) refl refl refl
   where
     go : (t u v : Bool) → leb 16 (length q) ≡ t → isAbsent (atKey p f (q ++ (n ∷ []))) ≡ u → ltb (suc (size f)) most ≡ v
-        → GoodStep p most (cond t (stops 14) (cond u (cond v (goes (opened n x (kids (putIn p (q ++ (n ∷ [])) x (folder f))) q ds)) (stops 3)) (stops 13)))
-    go true u v d e r = tt
-    go false true true d e r = good-opened p most n x f q ds rule row h (leb-false 16 (length q) d) (is-absent _ e) (ltb-true _ most r)
-    go false true false d e r = tt
-    go false false v d e r = tt
+        → GoodStep p most (cond t (stops 14) (cond u (cond v (goes (opened n x (kids (putIn p (q ++ (n ∷ [])) x (folder f))) q d)) (stops 3)) (stops 13)))
+    go true u v a e r = tt
+    go false true true a e r = good-opened p most n x f q d rule row h (leb-false 16 (length q) a) (is-absent _ e) (ltb-true _ most r)
+    go false true false a e r = tt
+    go false false v a e r = tt

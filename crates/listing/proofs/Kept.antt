@@ -5,7 +5,7 @@ use mathlib.Core.List.{List, [], _++_, _∷_}
 use mathlib.Core.Path.{_∙_, _≡_, ap, refl, sym}
 use native.Mathlib.Omega.{arith}
 use lib.Dec.{ltb}
-use lib.ListN.{getD, length, length-set, length-take, take}
+use lib.ListN.{getD, length, length-take, take}
 use lib.Seq.{take-length, take-suc}
 use Prim.Native.Nat.{ℕ, suc, zero, _-_, _<_}
 use borrow.Author.Tests.{ltb-true}
@@ -54,8 +54,7 @@ entry-good twice ws = tt
 module _ (p : Profile) (most : ℕ) where
   pub good-default : (v : Said) (s : State) → GoodState p most s → GoodState p most (withDefault v s)
   good-default v (before d) h = tt
-  good-default v (inside f q ds) h =
-      record { fit = h .fit; here = h .here; named = h .named; deep = h .deep; each = length-set ds _ v ∙ h .each }
+  good-default v (inside f q d) h = h
   good-default v (closed f) h = h
 
   good-set : (t : Said) (s : State) → GoodState p most s → GoodStep p most (setTo t s)
@@ -112,45 +111,43 @@ split-last q h =
     sym (take-length q) ∙ ap (λ (k : ℕ). take k q) (sym e) ∙ take-suc q (length q - 1) [] lt
 
 module _ (p : Profile) (most : ℕ) where
-  good-close : (f : Forest) (q : TreePath) (ds : List Said) → Inside p most f q ds → GoodState p most (close f q ds)
-  good-close f [] ds h = h .fit
-  good-close f (n ∷ q) ds h =
+  good-close : (f : Forest) (q : TreePath) (d : Said) → Inside p most f q → GoodState p most (close f q d)
+  good-close f [] d h = h .fit
+  good-close f (n ∷ q) d h =
       let r : TreePath = n ∷ q in
       let m : Name = getD r (length r - 1) [] in
       let e : foldPath p r ≡ foldPath p (front r) ++ (key p m ∷ []) = ap (foldPath p) (split-last r (omega arith)) ∙ path-append p (front r) (m ∷ []) in
       let there : Present (at (folder (fold p f)) (foldPath p (front r) ++ (key p m ∷ []))) = rw e at (there-of (atKey p f r) (h .here)) in
       let deep = h .deep in
-      let each = h .each in
       let named : AllNames NameRule (front r) = all-take NameRule (length r - 1) r (h .named) in
       record {
         fit = h .fit;
         here = folder-above (foldPath p (front r)) (key p m) (folder (fold p f)) there;
         named = named;
         deep = omega (arith, length-take (length r - 1) r);
-        each = omega (arith, length-take (length r - 1) r, length-take (length ds - 1) ds);
       }
 
   pub good-closing : (ws : Words) (s : State) → GoodState p most s → GoodStep p most (closeLine ws s)
   unfolding closeLine
   good-closing ws (before d) h = tt
-  good-closing ws (inside f q ds) h = good-cond p most (isEmpty ws) (goes (close f q ds)) (stops 9) (good-close f q ds h) tt
+  good-closing ws (inside f q d) h = good-cond p most (isEmpty ws) (goes (close f q d)) (stops 9) (good-close f q d h) tt
   good-closing ws (closed f) h = tt
 
-  root-state : (d : Said) → 0 < most → Inside p most end [] (d ∷ [])
+  pub root-state : 0 < most → Inside p most end []
   unfolding fold Sorted Within AllNames at size
-  root-state d h =
-      record { fit = record { good = record { sorted = tt; within = tt }; room = h }; here = tt; named = tt; deep = omega arith; each = refl }
+  root-state h =
+      record { fit = record { good = record { sorted = tt; within = tt }; room = h }; here = tt; named = tt; deep = omega arith }
 
   good-rooted : (d : Said) (x : Entry) → GoodStep p most (rooted most d x)
   good-rooted d (faulty k) = tt
   good-rooted d (holds x) = go (ltb 0 most) refl
     where
-      go : (t : Bool) → ltb 0 most ≡ t → GoodStep p most (cond t (goes (inside end [] (d ∷ []))) (stops 3))
-      go true e = root-state d (ltb-true 0 most e)
+      go : (t : Bool) → ltb 0 most ≡ t → GoodStep p most (cond t (goes (inside end [] d)) (stops 3))
+      go true e = root-state (ltb-true 0 most e)
       go false e = tt
 
   pub good-root : (ws : Words) (s : State) → GoodStep p most (rootLine most ws s)
   unfolding rootLine
   good-root ws (before d) = good-rooted d (rootAs (typeIn d ws))
-  good-root ws (inside f q ds) = tt
+  good-root ws (inside f q d) = tt
   good-root ws (closed f) = tt

@@ -16,7 +16,7 @@ use Rattle.tree.specs.declared.Profile.{Profile}
 use Rattle.listing.specs.Bytes.{text}
 use Rattle.listing.specs.Lines.{linesFrom}
 use Rattle.listing.specs.Entries.{Said, Said.none}
-use Rattle.listing.specs.Reading.{Outcome.accepted, State.before, State.inside, answerOf, endsInLF, inForce, mostRows, reading, run}
+use Rattle.listing.specs.Reading.{Outcome.accepted, State.before, State.inside, answerOf, endsInLF, mostRows, reading, run}
 use Rattle.listing.specs.RoundTrip.{RoundTrip}
 use Rattle.listing.specs.Writing.{dirLine, fileLine, linesOf, nameText, textOf}
 use Rattle.listing.proofs.Spot.{Fits, Leads.a-dir, Leads.a-leaf, Open, fits-more, join, join-assoc, join-end, names, names-more, plug, plug-more, size-join, size-plug, sorted-below, sorted-rest}
@@ -74,41 +74,40 @@ module _ {p : Profile} {most d : ℕ} {os : List Open} {f : Forest} where
 -- the lines of s lead from the entries f to those of both
 abbrev Reads : Profile → ℕ → Forest → Type 0
 Reads p most s =
-    (d n : ℕ) (r : List ℕ) (os : List Open) (f : Forest) (ds : List Said) → Ready p most d os f s
-    → run p most (linesFrom n 0 (linesOf s ++ r)) (inside (plug os f) (names os) ds)
-    ≡ run p most (linesFrom (after n s) 0 r) (inside (plug os (join f s)) (names os) ds)
+    (d n : ℕ) (r : List ℕ) (os : List Open) (f : Forest) (v : Said) → Ready p most d os f s
+    → run p most (linesFrom n 0 (linesOf s ++ r)) (inside (plug os f) (names os) v)
+    ≡ run p most (linesFrom (after n s) 0 r) (inside (plug os (join f s)) (names os) v)
 
 -- a folder's own lines, between the one that opens it and the one that closes it
-reads-kids : (p : Profile) (most : ℕ) (m : Name) (k s : Forest) → Reads p most k → (d n : ℕ) (r : List ℕ) (os : List Open) (f : Forest) (ds : List Said)
+reads-kids : (p : Profile) (most : ℕ) (m : Name) (k s : Forest) → Reads p most k → (d n : ℕ) (r : List ℕ) (os : List Open) (f : Forest) (v : Said)
     → Ready p most (suc d) os f (dir m k s)
-    → run p most (linesFrom n 0 (linesOf k ++ r)) (inside (plug os (join f (dir m end end))) (names os ++ (m ∷ [])) ds)
-    ≡ run p most (linesFrom (after n k) 0 r) (inside (plug os (join f (dir m k end))) (names os ++ (m ∷ [])) ds)
-reads-kids p most m k s reads d n r os f ds h =
+    → run p most (linesFrom n 0 (linesOf k ++ r)) (inside (plug os (join f (dir m end end))) (names os ++ (m ∷ [])) v)
+    ≡ run p most (linesFrom (after n k) 0 r) (inside (plug os (join f (dir m k end))) (names os ++ (m ∷ [])) v)
+reads-kids p most m k s reads d n r os f v h =
     let o : Open = record { earlier = f; name = m } in
-    rw (plug-more os o end, plug-more os o k, names-more os o) at (reads d n r (os ++ (o ∷ [])) end ds (dir-kids h))
+    rw (plug-more os o end, plug-more os o k, names-more os o) at (reads d n r (os ++ (o ∷ [])) end v (dir-kids h))
 
 reads : (p : Profile) (most : ℕ) (s : Forest) → Reads p most s
 unfolding linesOf Within size
-reads p most end d n r os f ds h = rw (join-end f)
-reads p most (leaf m c s) zero n r os f ds h = absurd (h .within)
-reads p most (leaf m c s) (suc d) n r os f ds h =
+reads p most end d n r os f v h = rw (join-end f)
+reads p most (leaf m c s) zero n r os f v h = absurd (h .within)
+reads p most (leaf m c s) (suc d) n r os f v h =
     let deep = h .deep in
     let room = h .room in
     rw (append-assoc (fileLine m c) (linesOf s) r, ← join-assoc f (leaf m c end) s)
-    (file-line p most n (linesOf s ++ r) m (h .within .0) os f ds (h .fits) (sorted-below p m f a-leaf (h .sorted)) (omega arith) (omega arith) c (h .within .1)
-    ∙ reads p most s (suc d) (suc n) r os (join f (leaf m c end)) ds (next (leaf m c end) s h (h .within .2)))
-reads p most (dir m k s) zero n r os f ds h = absurd (h .within)
-reads p most (dir m k s) (suc d) n r os f ds h =
+    (file-line p most n (linesOf s ++ r) m (h .within .0) os f v (h .fits) (sorted-below p m f a-leaf (h .sorted)) (omega arith) (omega arith) c (h .within .1)
+    ∙ reads p most s (suc d) (suc n) r os (join f (leaf m c end)) v (next (leaf m c end) s h (h .within .2)))
+reads p most (dir m k s) zero n r os f v h = absurd (h .within)
+reads p most (dir m k s) (suc d) n r os f v h =
     let deep = h .deep in
     let room = h .room in
     let rest : List ℕ = text "..\n" ++ (linesOf s ++ r) in
-    let ds′ : List Said = ds ++ (inForce ds ∷ []) in
     let n′ : ℕ = after (suc n) k in
     rw (dir-split m k s r, ← join-assoc f (dir m k end) s)
-    (dir-line p most n (linesOf k ++ rest) m (h .within .0) os f ds (h .fits) (sorted-below p m f a-dir (h .sorted)) (omega arith) (omega arith)
-    ∙ reads-kids p most m k s (reads p most k) d (suc n) rest os f ds′ h
-    ∙ close-line p most n′ (linesOf s ++ r) (plug os (join f (dir m k end))) (names os) m ds (inForce ds)
-    ∙ reads p most s (suc d) (suc n′) r os (join f (dir m k end)) ds (next (dir m k end) s h (h .within .2)))
+    (dir-line p most n (linesOf k ++ rest) m (h .within .0) os f v (h .fits) (sorted-below p m f a-dir (h .sorted)) (omega arith) (omega arith)
+    ∙ reads-kids p most m k s (reads p most k) d (suc n) rest os f v h
+    ∙ close-line p most n′ (linesOf s ++ r) (plug os (join f (dir m k end))) (names os) m v
+    ∙ reads p most s (suc d) (suc n′) r os (join f (dir m k end)) v (next (dir m k end) s h (h .within .2)))
 
 -- the whole text ends in LF
 ends-in : (l : List ℕ) → endsInLF (l ++ (10 ∷ [])) ≡ true
@@ -123,8 +122,8 @@ unfolding textOf linesFrom run Fits size
 runs p most f w h =
     hash-line p most (dirLine (text ".") ++ (linesOf f ++ text "..\n")) (before none)
     ∙ root-line p most 2 (linesOf f ++ text "..\n") (omega arith)
-    ∙ reads p most f 16 3 (text "..\n") [] end (none ∷ []) (record { fits = tt; sorted = w .sorted; within = w .within; deep = omega arith; room = omega arith })
-    ∙ close-root p most (after 3 f) [] f (none ∷ [])
+    ∙ reads p most f 16 3 (text "..\n") [] end none (record { fits = tt; sorted = w .sorted; within = w .within; deep = omega arith; room = omega arith })
+    ∙ close-root p most (after 3 f) [] f none
 
 pub round-trip : RoundTrip
 unfolding reading

@@ -1,7 +1,7 @@
 -- What each kind of written line does to the reader's state.
 use mathlib.Core.Bool.{Bool, false, false≢true, true}
 use mathlib.Core.List.{List, [], _++_, _∷_}
-use mathlib.Core.Path.{_∙_, _≡_, ap, ap₂, refl, sym}
+use mathlib.Core.Path.{_∙_, _≡_, ap, refl, sym}
 use native.Mathlib.Omega.{arith}
 use lib.Dec.{eqb}
 use lib.ListN.{getD, length, length-append}
@@ -21,7 +21,7 @@ use Rattle.listing.specs.Lines.{beginOf, lenIn, linesFrom}
 use Rattle.listing.specs.Words.{Words, isText, keyLen, span, values, wordsFrom}
 use Rattle.listing.specs.Names.{decodeFrom, isName, nameOf, packed}
 use Rattle.listing.specs.Entries.{Entry.holds, Said, Said.none, entryOf, typeIn}
-use Rattle.listing.specs.Reading.{State, State.before, State.closed, State.inside, Step.goes, atKey, close, closeLine, entered, entryLine, front, inForce, lineDoes, opened, placed, rootLine, run, wordsDo}
+use Rattle.listing.specs.Reading.{State, State.before, State.closed, State.inside, Step.goes, atKey, close, closeLine, entered, entryLine, front, lineDoes, opened, placed, rootLine, run, wordsDo}
 use Rattle.listing.specs.Writing.{digestText, dirLine, fileLine, nameText, sizeText}
 use Rattle.listing.proofs.Digits.{Back, allPlain, content-back}
 use Rattle.listing.proofs.Solid.{AllSolid, AllSolid.more, AllSolid.none, Solid, len-done, solid-plain, tailOf}
@@ -61,10 +61,10 @@ some-name : (w : List ℕ) → isName w ≡ true → 0 < length w
 some-name [] p = absurd (false≢true (sym (not-names .2) ∙ p))
 some-name (b ∷ v) p = omega arith
 
-entry-word : (p : Profile) (most : ℕ) (w : List ℕ) (ws : Words) (f : Forest) (q : TreePath) (ds : List Said) → isName w ≡ true
-    → wordsDo p most true (w ∷ ws) (inside f q ds) ≡ entered p most (nameOf w) (entryOf (inForce ds) ws) f q ds
+entry-word : (p : Profile) (most : ℕ) (w : List ℕ) (ws : Words) (f : Forest) (q : TreePath) (v : Said) → isName w ≡ true
+    → wordsDo p most true (w ∷ ws) (inside f q v) ≡ entered p most (nameOf w) (entryOf v ws) f q v
 unfolding wordsDo entryLine
-entry-word p most w ws f q ds h =
+entry-word p most w ws f q v h =
     rw (first-not 35 hash-first refl w h, first-not 47 slash-first refl w h, not-name w (text "..") h (not-names .0), not-name w (text ".") h (not-names .1), h)
 
 names-length : (os : List Open) → length (names os) ≡ length os
@@ -81,10 +81,10 @@ module _ (p : Profile) where
   put-last n x f b = rw join-end at (update-join p n x f end b)
 
   -- a name that comes after all others is put last
-  placed-last : (most : ℕ) (n : Name) (x : Node) (os : List Open) (f : Forest) (ds : List Said) → Fits p os → Below p n f → length os < 16
-      → suc (size (plug os f)) < most → placed p most n x (plug os f) (names os) ds ≡ goes (opened n x (plug os (join f (add n x end))) (names os) ds)
+  placed-last : (most : ℕ) (n : Name) (x : Node) (os : List Open) (f : Forest) (v : Said) → Fits p os → Below p n f → length os < 16
+      → suc (size (plug os f)) < most → placed p most n x (plug os f) (names os) v ≡ goes (opened n x (plug os (join f (add n x end))) (names os) v)
   unfolding placed
-  placed-last most n x os f ds h b d r =
+  placed-last most n x os f v h b d r =
       let e : atKey p (plug os f) (names os ++ (n ∷ [])) ≡ absent = at-plug p os f (n ∷ []) h ∙ not-there n f b in
       let k : length (names os) < 16 = omega (arith, names-length os) in
       rw (lt-leb 16 (length (names os)) k, e, lt-ltb _ most r, put-plug p os f n x h, put-last n x f b)
@@ -112,64 +112,64 @@ solid-file c b =
     (more (solid-plain (text "size=" ++ sizeText c) (b .plain-size)) (omega arith)
     (more (solid-plain (text "sha256digest=" ++ digestText c) (b .plain-digest)) (omega arith) none))
 
-module _ (p : Profile) (most n : ℕ) (r : List ℕ) (m : Name) (rule : NameRule m) (os : List Open) (f : Forest) (ds : List Said)
+module _ (p : Profile) (most n : ℕ) (r : List ℕ) (m : Name) (rule : NameRule m) (os : List Open) (f : Forest) (v : Said)
     (h : Fits p os) (b : Below p m f) (d : length os < 16) (room : suc (size (plug os f)) < most) where
-  entered-last : (x : Node) (ws : Words) → entryOf (inForce ds) ws ≡ holds x
-      → wordsDo p most true (nameText m ∷ ws) (inside (plug os f) (names os) ds) ≡ goes (opened m x (plug os (join f (add m x end))) (names os) ds)
+  entered-last : (x : Node) (ws : Words) → entryOf v ws ≡ holds x
+      → wordsDo p most true (nameText m ∷ ws) (inside (plug os f) (names os) v) ≡ goes (opened m x (plug os (join f (add m x end))) (names os) v)
   entered-last x ws e =
-      entry-word p most (nameText m) ws (plug os f) (names os) ds (is-name m rule) ∙ rw (e, name-back m rule) (placed-last p most m x os f ds h b d room)
+      entry-word p most (nameText m) ws (plug os f) (names os) v (is-name m rule) ∙ rw (e, name-back m rule) (placed-last p most m x os f v h b d room)
 
-  entry-line : (x : Node) (ws : Words) → entryOf (inForce ds) ws ≡ holds x → AllSolid ws
-      → run p most (linesFrom n 0 (nameText m ++ tailOf ws ++ r)) (inside (plug os f) (names os) ds)
-      ≡ run p most (linesFrom (suc n) 0 r) (opened m x (plug os (join f (add m x end))) (names os) ds)
+  entry-line : (x : Node) (ws : Words) → entryOf v ws ≡ holds x → AllSolid ws
+      → run p most (linesFrom n 0 (nameText m ++ tailOf ws ++ r)) (inside (plug os f) (names os) v)
+      ≡ run p most (linesFrom (suc n) 0 r) (opened m x (plug os (join f (add m x end))) (names os) v)
   entry-line x ws e a =
       takes p most n r _ _ (solid-name m rule) (some-name (nameText m) (is-name m rule)) a (entered-last x ws e)
 
-  pub dir-line : run p most (linesFrom n 0 (dirLine (nameText m) ++ r)) (inside (plug os f) (names os) ds)
-      ≡ run p most (linesFrom (suc n) 0 r) (inside (plug os (join f (dir m end end))) (names os ++ (m ∷ [])) (ds ++ (inForce ds ∷ [])))
+  pub dir-line : run p most (linesFrom n 0 (dirLine (nameText m) ++ r)) (inside (plug os f) (names os) v)
+      ≡ run p most (linesFrom (suc n) 0 r) (inside (plug os (join f (dir m end end))) (names os ++ (m ∷ [])) v)
   unfolding dirLine tailOf
-  dir-line = entry-line (folder end) (text "type=dir" ∷ []) (dir-entry (inForce ds)) solid-dir
+  dir-line = entry-line (folder end) (text "type=dir" ∷ []) (dir-entry v) solid-dir
 
   pub file-line : (c : Content) → ContentRule c
-      → run p most (linesFrom n 0 (fileLine m c ++ r)) (inside (plug os f) (names os) ds)
-      ≡ run p most (linesFrom (suc n) 0 r) (inside (plug os (join f (leaf m c end))) (names os) ds)
+      → run p most (linesFrom n 0 (fileLine m c ++ r)) (inside (plug os f) (names os) v)
+      ≡ run p most (linesFrom (suc n) 0 r) (inside (plug os (join f (leaf m c end))) (names os) v)
   unfolding fileLine tailOf fileWords
-  file-line c q = let k = content-back c q in entry-line (file c) (fileWords c) (file-entry (inForce ds) c k) (solid-file c k)
+  file-line c q = let k = content-back c q in entry-line (file c) (fileWords c) (file-entry v c k) (solid-file c k)
 
 -- .. undoes what opening did
-front-last : {A : Type 0} (l : List A) (x : A) → front (l ++ (x ∷ [])) ≡ l
-front-last l x = take-at l (x ∷ []) (length (l ++ (x ∷ [])) - 1) (omega (arith, length-append l (x ∷ [])))
+front-last : (q : TreePath) (m : Name) → front (q ++ (m ∷ [])) ≡ q
+front-last q m = take-at q (m ∷ []) (length (q ++ (m ∷ [])) - 1) (omega (arith, length-append q (m ∷ [])))
 
-pub close-last : (f : Forest) (p : TreePath) (m : Name) (ds : List Said) (d : Said) → close f (p ++ (m ∷ [])) (ds ++ (d ∷ [])) ≡ inside f p ds
-close-last f [] m ds d = ap (inside f []) (front-last ds d)
-close-last f (k ∷ p) m ds d = ap₂ (inside f) (front-last (k ∷ p) m) (front-last ds d)
+pub close-last : (f : Forest) (q : TreePath) (m : Name) (v : Said) → close f (q ++ (m ∷ [])) v ≡ inside f q v
+close-last f [] m v = refl
+close-last f (k ∷ q) m v = ap (λ (r : TreePath). inside f r v) (front-last (k ∷ q) m)
 
 solid-dots : Solid (text "..") × Solid (text ".")
 unfolding allPlain classOf
 solid-dots = (solid-plain (text "..") refl, solid-plain (text ".") refl)
 
-close-word : (p : Profile) (most : ℕ) (f : Forest) (q : TreePath) (ds : List Said) → wordsDo p most true (text ".." ∷ []) (inside f q ds) ≡ goes (close f q ds)
+close-word : (p : Profile) (most : ℕ) (f : Forest) (q : TreePath) (v : Said) → wordsDo p most true (text ".." ∷ []) (inside f q v) ≡ goes (close f q v)
 unfolding wordsDo closeLine sameWords cmp
-close-word p most f q ds = refl
+close-word p most f q v = refl
 
-root-word : (p : Profile) (most : ℕ) → 0 < most → wordsDo p most true (text "." ∷ text "type=dir" ∷ []) (before none) ≡ goes (inside end [] (none ∷ []))
+root-word : (p : Profile) (most : ℕ) → 0 < most → wordsDo p most true (text "." ∷ text "type=dir" ∷ []) (before none) ≡ goes (inside end [] none)
 unfolding wordsDo rootLine typeIn values keyLen sameWords cmp
 root-word p most h = rw (lt-ltb 0 most h)
 
 module _ (p : Profile) (most n : ℕ) (r : List ℕ) where
-  close-any : (f : Forest) (q : TreePath) (ds : List Said)
-      → run p most (linesFrom n 0 (text "..\n" ++ r)) (inside f q ds) ≡ run p most (linesFrom (suc n) 0 r) (close f q ds)
+  close-any : (f : Forest) (q : TreePath) (v : Said)
+      → run p most (linesFrom n 0 (text "..\n" ++ r)) (inside f q v) ≡ run p most (linesFrom (suc n) 0 r) (close f q v)
   unfolding tailOf
-  close-any f q ds = takes p most n r _ _ (solid-dots .0) (omega arith) none (close-word p most f q ds)
+  close-any f q v = takes p most n r _ _ (solid-dots .0) (omega arith) none (close-word p most f q v)
 
-  pub close-line : (f : Forest) (q : TreePath) (m : Name) (ds : List Said) (d : Said)
-      → run p most (linesFrom n 0 (text "..\n" ++ r)) (inside f (q ++ (m ∷ [])) (ds ++ (d ∷ []))) ≡ run p most (linesFrom (suc n) 0 r) (inside f q ds)
-  close-line f q m ds d = close-any f (q ++ (m ∷ [])) (ds ++ (d ∷ [])) ∙ ap (run p most (linesFrom (suc n) 0 r)) (close-last f q m ds d)
+  pub close-line : (f : Forest) (q : TreePath) (m : Name) (v : Said)
+      → run p most (linesFrom n 0 (text "..\n" ++ r)) (inside f (q ++ (m ∷ [])) v) ≡ run p most (linesFrom (suc n) 0 r) (inside f q v)
+  close-line f q m v = close-any f (q ++ (m ∷ [])) v ∙ ap (run p most (linesFrom (suc n) 0 r)) (close-last f q m v)
 
-  pub close-root : (f : Forest) (ds : List Said) → run p most (linesFrom n 0 (text "..\n" ++ r)) (inside f [] ds) ≡ run p most (linesFrom (suc n) 0 r) (closed f)
-  close-root f ds = close-any f [] ds
+  pub close-root : (f : Forest) (v : Said) → run p most (linesFrom n 0 (text "..\n" ++ r)) (inside f [] v) ≡ run p most (linesFrom (suc n) 0 r) (closed f)
+  close-root f v = close-any f [] v
 
-  pub root-line : 0 < most → run p most (linesFrom n 0 (dirLine (text ".") ++ r)) (before none) ≡ run p most (linesFrom (suc n) 0 r) (inside end [] (none ∷ []))
+  pub root-line : 0 < most → run p most (linesFrom n 0 (dirLine (text ".") ++ r)) (before none) ≡ run p most (linesFrom (suc n) 0 r) (inside end [] none)
   unfolding dirLine tailOf
   root-line h = takes p most n r _ _ (solid-dots .1) (omega arith) solid-dir (root-word p most h)
 

@@ -7,7 +7,6 @@ use Rattle.tree.specs.Forest.{Forest, Node, Node.absent, Node.file, Node.folder
 use Rattle.tree.specs.Rules.{NameRule, AllNames}
 use Rattle.tree.specs.Key.{FormedIn}
 use Rattle.tree.specs.declared.Profile.{Profile}
-use Rattle.listing.specs.Entries.{Said}
 use Rattle.listing.specs.Reading.{Outcome.accepted, State, State.before, State.inside, State.closed, Step, Step.stops, Step.goes, atKey, mostRows, reading}
 
 -- the row rules, and at most that many rows
@@ -21,17 +20,16 @@ IsFolder absent = ⊥
 IsFolder (file c) = ⊥
 IsFolder (folder k) = Unit {0}
 
--- the open path leads, by key, to a folder of a tree that fits, and each open folder has its default
-pub record Inside (p : Profile) (most : ℕ) (f : Forest) (q : TreePath) (ds : List Said) : Type 0 where
+-- the open path leads, by key, to a folder of a tree that fits
+pub record Inside (p : Profile) (most : ℕ) (f : Forest) (q : TreePath) : Type 0 where
   pub fit : Fit p most f
   pub here : IsFolder (atKey p f q)
   pub named : AllNames NameRule q
   pub deep : length q ≤ 16
-  pub each : length ds ≡ suc (length q)
 
 abbrev pub GoodState : Profile → ℕ → State → Type 0
 GoodState p most (before d) = Unit {0}
-GoodState p most (inside f q ds) = Inside p most f q ds
+GoodState p most (inside f q d) = Inside p most f q
 GoodState p most (closed f) = Fit p most f
 
 abbrev pub GoodStep : Profile → ℕ → Step → Type 0

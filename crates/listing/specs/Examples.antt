@@ -54,6 +54,12 @@ digest = text hex62 ++ text "10"
 abbrev filed : List ℕ → Outcome → Example
 filed ws o = record { listing = text ". type=dir\na type=file" ++ (ws ++ text "\n"); room = 400; gives = o }
 
+-- the file a of one byte after each of two texts, its type left to the default
+abbrev days : String → String → Outcome → Example
+days t u o =
+    let day : List ℕ = text "a size=1" ++ (digest ++ text "\n") in
+    record { listing = text t ++ (day ++ (text u ++ day)); room = 400; gives = o }
+
 -- with that size
 abbrev sized : String → Outcome → Example
 sized t o = filed (text " size=" ++ (text t ++ digest)) o
@@ -143,14 +149,28 @@ wholes =
     map goesOn ("\\\\\n" ∷ "\\" ∷ "*" ∷ "/x" ∷ "." ∷ ".." ∷ "a" ∷ [])
     ++ map foreign (upFrom 0 9 ++ (upFrom 11 21 ++ upFrom 127 129))
 
--- / lines and the defaults; the root, and what opens and closes
+-- a default: it outlives the folder it was set in, and holds in those opened after it; is changed in a folder; is cleared in one
+abbrev pub held : List Example
+held =
+    days ". type=dir\n0 type=dir\n/set type=file\n" "..\n1 type=dir\n" (accepted (dir (short 0x30000000) (aOf 0 1) (dir (short 0x31000000) (aOf 0 1) end))) ∷
+    days "/set type=dir\n.\n0\n1\n/set type=file\n" "..\n..\n" (accepted (dir (short 0x30000000) (dir (short 0x31000000) (aOf 0 1) end) (aOf 0 1))) ∷
+    days "/set type=file\n. type=dir\n0 type=dir\n" "..\n" (accepted (dir (short 0x30000000) (aOf 0 1) (aOf 0 1))) ∷
+    listed "/set type=dir\na\nb\n..\n..\nc\n" (accepted (dir (short 0x61000000) (folder 0x62000000 end) (folder 0x63000000 end))) ∷
+    alone "/set type=dir\n.\na\n/set type=file\n..\nb\n" (refused 9 6) ∷
+    alone "/set type=file\n. type=dir\na type=dir\n/set type=dir\n..\nb\n" (accepted (folder 0x61000000 (folder 0x62000000 end))) ∷
+    listed "/set type=dir\na\n/set type=file\nb type=dir\n/set type=dir\nc\n..\n..\nd\n" (accepted (dir (short 0x61000000) (dir (short 0x62000000) (folder 0x63000000 end) (folder 0x64000000 end)) end)) ∷
+    alone "/set type=dir\n.\na\n/unset all\n..\nb\n" (refused 10 6) ∷
+    alone "/set type=dir\n.\na\nb\n/unset type\n..\n..\nc\n" (refused 10 8) ∷
+    listed "/set type=dir\na\n/unset type\nb type=dir\nc\n" (refused 10 6) ∷
+    listed "a type=dir\n/set type=dir\nb\n..\n..\n/unset all\nc\n" (refused 10 8) ∷
+    alone "/set type=dir\n.\na\n/unset all\n..\n/set type=dir\nb\n" (accepted (folder 0x61000000 (folder 0x62000000 end))) ∷
+    []
+
+-- / lines and the default before the root and after it; the root, and what opens and closes
 abbrev pub defaults : List Example
 defaults =
-    alone "/set type=dir\n.\na\n/set type=file\n..\nb\n" (accepted (folder 0x61000000 (folder 0x62000000 end))) ∷
-    alone "/set type=dir\n.\na\n/unset all\n..\nb\n" (accepted (folder 0x61000000 (folder 0x62000000 end))) ∷
     alone "/set type=file\n.\n" (refused 10 2) ∷
     alone "/set type=file\n. type=dir\nb type=dir\nc\n" (refused 9 4) ∷
-    listed "/set type=dir\na\n/set type=file\nb type=dir\n/set type=dir\nc\n..\n..\nd\n" (refused 9 10) ∷
     alone "/set type=file\n/set type=dir\n/set\n/set gid / # Type=x types=x\n/unset\n/unset size sha256digest uid=*\n.\n" (accepted end) ∷
     alone "/set type=dir\n/unset type=x type\n.\n" (refused 10 3) ∷
     alone "/set type=dir\n/unset all=x\n.\n" (refused 10 3) ∷
@@ -222,7 +242,7 @@ places =
 
 -- all of them
 abbrev pub examples : List Example
-examples = wholes ++ (defaults ++ (called ++ (entries ++ places)))
+examples = wholes ++ (held ++ (defaults ++ (called ++ (entries ++ places))))
 
 -- a text after the root's line, and what comes of it in each profile
 pub record Cased : Type 0 where

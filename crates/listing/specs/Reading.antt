@@ -2,7 +2,7 @@
 -- by key, and kept as the text spells them.
 use mathlib.Core.List.{List, [], _∷_, _++_}
 use mathlib.Core.Bool.{Bool, true, false, cond, _&&_}
-use lib.ListN.{length, take, getD, set}
+use lib.ListN.{length, take, getD}
 use lib.Dec.{ltb, leb, eqb}
 use Prim.Native.Nat.{ℕ, suc, _-_, _/_, min}
 use Rattle.tree.specs.Name.{Name}
@@ -16,11 +16,11 @@ use Rattle.listing.specs.Words.{Words, words, values, isText}
 use Rattle.listing.specs.Names.{isName, nameOf}
 use Rattle.listing.specs.Entries.{Said, Said.none, Said.isDir, Said.isFile, Said.isOther, Said.twice, Entry, Entry.faulty, Entry.holds, typeIn, entryOf, rootAs}
 
--- before the root is listed: the default set so far. Inside it: the tree so far, the names of the open folders below the
--- root, and the default type of each open folder, the root's first. After it has closed: the tree
+-- before the root is listed: the default type. Inside it: the tree so far, the names of the open folders below the root, and the
+-- default type, which holds until it is changed, wherever folders open and close. After it has closed: the tree
 pub data State : Type 0 where
   before : Said → State
-  inside : Forest → TreePath → List Said → State
+  inside : Forest → TreePath → Said → State
   closed : Forest → State
 
 -- what a line does: a fault, or the state after it
@@ -28,18 +28,14 @@ pub data Step : Type 0 where
   stops : ℕ → Step
   goes : State → Step
 
--- the default of the folder last opened
-abbrev pub inForce : List Said → Said
-inForce ds = getD ds (length ds - 1) none
-
--- without what was opened last
-abbrev pub front : {A : Type 0} → List A → List A
-front l = take (length l - 1) l
+-- without the folder last opened
+abbrev pub front : TreePath → TreePath
+front q = take (length q - 1) q
 
 -- after the root has closed nothing changes
 abbrev pub withDefault : Said → State → State
 withDefault v (before d) = before v
-withDefault v (inside f q ds) = inside f q (set ds (length ds - 1) v)
+withDefault v (inside f q d) = inside f q v
 withDefault v (closed f) = closed f
 
 -- no word
@@ -71,32 +67,32 @@ slashLine w ws s =
     cond (sameWords w (text "/set")) (setLine ws s) (cond (sameWords w (text "/unset")) (unsetLine ws s) (stops 9))
 
 -- the folder last opened is closed, the root included
-abbrev pub close : Forest → TreePath → List Said → State
-close f [] ds = closed f
-close f (n ∷ q) ds = inside f (front (n ∷ q)) (front ds)
+abbrev pub close : Forest → TreePath → Said → State
+close f [] d = closed f
+close f (n ∷ q) d = inside f (front (n ∷ q)) d
 
 -- .. stands alone: 11, 9
 unfoldable pub closeLine : Words → State → Step
 closeLine ws (before d) = stops 11
-closeLine ws (inside f q ds) = cond (isEmpty ws) (goes (close f q ds)) (stops 9)
+closeLine ws (inside f q d) = cond (isEmpty ws) (goes (close f q d)) (stops 9)
 closeLine ws (closed f) = stops 11
 
 -- the root, where there is room for its row
 abbrev pub rooted : ℕ → Said → Entry → Step
 rooted most d (faulty k) = stops k
-rooted most d (holds x) = cond (ltb 0 most) (goes (inside end [] (d ∷ []))) (stops 3)
+rooted most d (holds x) = cond (ltb 0 most) (goes (inside end [] d)) (stops 3)
 
 -- . is the first entry: 11, 9 or 10, 3
 unfoldable pub rootLine : ℕ → Words → State → Step
 rootLine most ws (before d) = rooted most d (rootAs (typeIn d ws))
-rootLine most ws (inside f q ds) = stops 11
+rootLine most ws (inside f q d) = stops 11
 rootLine most ws (closed f) = stops 11
 
--- a folder entry opens itself, with the default in force
-abbrev pub opened : Name → Node → Forest → TreePath → List Said → State
-opened n absent f q ds = inside f q ds
-opened n (file c) f q ds = inside f q ds
-opened n (folder k) f q ds = inside f (q ++ (n ∷ [])) (ds ++ (inForce ds ∷ []))
+-- a folder entry opens itself
+abbrev pub opened : Name → Node → Forest → TreePath → Said → State
+opened n absent f q d = inside f q d
+opened n (file c) f q d = inside f q d
+opened n (folder k) f q d = inside f (q ++ (n ∷ [])) d
 
 -- nothing stands there
 abbrev pub isAbsent : Node → Bool
@@ -109,22 +105,22 @@ abbrev pub atKey : Profile → Forest → TreePath → Node
 atKey p f q = at (folder (fold p f)) (foldPath p q)
 
 -- an entry of that name in the folder last opened: 14, 13 by key, 3
-unfoldable pub placed : Profile → ℕ → Name → Node → Forest → TreePath → List Said → Step
-placed p most n x f q ds =
+unfoldable pub placed : Profile → ℕ → Name → Node → Forest → TreePath → Said → Step
+placed p most n x f q d =
     cond (leb 16 (length q)) (stops 14)
     (cond (isAbsent (atKey p f (q ++ (n ∷ []))))
-    (cond (ltb (suc (size f)) most) (goes (opened n x (kids (putIn p (q ++ (n ∷ [])) x (folder f))) q ds)) (stops 3))
+    (cond (ltb (suc (size f)) most) (goes (opened n x (kids (putIn p (q ++ (n ∷ [])) x (folder f))) q d)) (stops 3))
     (stops 13))
 
 -- an entry, by what its words make of it
-abbrev pub entered : Profile → ℕ → Name → Entry → Forest → TreePath → List Said → Step
-entered p most n (faulty k) f q ds = stops k
-entered p most n (holds x) f q ds = placed p most n x f q ds
+abbrev pub entered : Profile → ℕ → Name → Entry → Forest → TreePath → Said → Step
+entered p most n (faulty k) f q d = stops k
+entered p most n (holds x) f q d = placed p most n x f q d
 
 -- any other entry: 11, 8, 9 or 10, then its place
 unfoldable pub entryLine : Profile → ℕ → List ℕ → Words → State → Step
 entryLine p most w ws (before d) = stops 11
-entryLine p most w ws (inside f q ds) = cond (isName w) (entered p most (nameOf w) (entryOf (inForce ds) ws) f q ds) (stops 8)
+entryLine p most w ws (inside f q d) = cond (isName w) (entered p most (nameOf w) (entryOf d ws) f q d) (stops 8)
 entryLine p most w ws (closed f) = stops 11
 
 -- a line by its words, and whether all its bytes are text: blank lines and comments are skipped, then 7 comes first
@@ -161,7 +157,7 @@ answerOf (accepted f) = record { number = 0; side = 0; place = suc (size f) }
 -- folders may be open at the end
 abbrev pub ended : State → Outcome
 ended (before d) = refused 12 0
-ended (inside f q ds) = accepted f
+ended (inside f q d) = accepted f
 ended (closed f) = accepted f
 
 -- a fault ends the run at its line

@@ -50,7 +50,7 @@ pub fn root_line(
     room: usize,
     s: listing_reader::Reader,
 ) -> listing_reader::Went
-    requires { ⌜ (from ≤ length (now line)) × (s .depth ≤ 17) ⌝ }
+    requires { ⌜ from ≤ length (now line) ⌝ }
     ensures { λ r. ⌜ Roots (words (drop from (now (line .entry)))) room s r ⌝ }
 {
     if s.count != 0 {
@@ -59,7 +59,7 @@ pub fn root_line(
             state: s,
         };
     }
-    let number = listing_held::root_of(line, from, said(listing_reader::default_of(s)));
+    let number = listing_held::root_of(line, from, said(s.default));
     if number != 0 {
         return listing_reader::Went { number, state: s };
     }
@@ -93,7 +93,7 @@ pub fn entry_line(
     }
     let n = listing_names::name_of(&line[a..e]);
     if n.good {
-        let h = listing_held::entry_of(line, e, said(listing_reader::default_of(s)));
+        let h = listing_held::entry_of(line, e, said(s.default));
         let number = h.number;
         if number != 0 {
             return listing_reader::Went { number, state: s };

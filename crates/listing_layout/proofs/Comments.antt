@@ -53,7 +53,7 @@ module _ (p : Profile) (most : ℕ) where
   -- the same lines, d later, all of them past k
   ended-later : (k d : ℕ) (s : State) → ended s ≡ later k d (ended s)
   ended-later k d (before v) = rw (le-leb 0 k (omega arith))
-  ended-later k d (inside f q ds) = refl
+  ended-later k d (inside f q v) = refl
   ended-later k d (closed f) = refl
 
   run-later : (k d n j : ℕ) (b : List ℕ) (s : State) → k < n → run p most (linesFrom (n + d) j b) s ≡ later k d (run p most (linesFrom n j b) s)

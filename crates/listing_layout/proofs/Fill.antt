@@ -3,13 +3,14 @@
 use mathlib.Core.Path.{_≡_, refl, ap, sym, _∙_}
 use mathlib.Core.List.{[], _∷_, _++_}
 use native.Mathlib.Omega.{arith}
-use Prim.Native.Nat.{_+_}
-use Rattle.tree.specs.Name.{Name}
+use Prim.Native.Nat.{_+_, Ordering, Ordering·lt, Ordering·eq, Ordering·gt}
+use Rattle.tree.specs.Name.{Name, cmp}
 use Rattle.tree.specs.Forest.{Forest, Node, Node.absent, Node.file, Node.folder, TreePath, Present, Sorted, SortedNode, at, find, kids, size}
 use Rattle.tree.specs.Put.{put, Reaches}
 use Rattle.tree.specs.Key.{key, fold, foldNode, foldPath, entry, putIn, updateIn}
 use Rattle.tree.specs.declared.Profile.{Profile}
 use Rattle.tree.proofs.Never.{never}
+use Rattle.tree.proofs.Order.{cmp-eq, cmp-refl}
 use Rattle.tree.proofs.Forest.{sorted-at, sorted-find}
 use Rattle.tree.proofs.Put.{sorted-put}
 use Rattle.tree.proofs.Size.{size-put, rowCount}
@@ -17,14 +18,14 @@ use Rattle.tree.proofs.Folds.{entry-fold, reach, reach-absent, reach-fold, size
 use Rattle.tree.proofs.Spots.{fold-putIn, path-append}
 use Rattle.listing.specs.Reading.{atKey}
 use Rattle.listing.proofs.Parent.{parent-last}
-use Rattle.listing_layout.proofs.Siblings.{entry-same, update-twice, update-entry}
+use Rattle.listing_layout.proofs.Siblings.{entry-other, entry-same, update-over, update-entry}
 
 -- what is put where a folder stands
 module _ (p : Profile) where
   no-folder : {P : Type 0} (q : TreePath) (k : Forest) → reach p absent q ≡ folder k → P
   no-folder q k e = let z = reach-absent p q in never (cc)
 
-  put-present : (q : TreePath) (x t : Node) (k : Forest) → Present x → reach p t (foldPath p q) ≡ folder k → Present (putIn p q x t)
+  pub put-present : (q : TreePath) (x t : Node) (k : Forest) → Present x → reach p t (foldPath p q) ≡ folder k → Present (putIn p q x t)
   unfolding putIn reach entry
   put-present [] x t k h e = h
   put-present (n ∷ q) x absent k h e = no-folder (foldPath p q) k e
@@ -48,15 +49,32 @@ module _ (p : Profile) where
   put-twice (n ∷ q) x y (folder f) k h e =
       let z = entry p (key p n) f in
       let there = put-present q y z k h e in
-      rw (entry-same p n (putIn p q y z) there f, put-twice q x y z k h e) (ap folder (update-twice p n (putIn p q x z) (putIn p q y z) there f))
+      rw (entry-same p n (putIn p q y z) there f, put-twice q x y z k h e) (ap folder (update-over p n n (putIn p q x z) (putIn p q y z) (cmp-refl (key p n)) there f))
 
-  put-last : (q : TreePath) (n : Name) (x t : Node) (k : Forest) → reach p t (foldPath p q) ≡ folder k
-      → putIn p (q ++ (n ∷ [])) x t ≡ putIn p q (folder (updateIn p n x k)) t
+  put-below : (q r : TreePath) (x t : Node) (k : Forest) → reach p t (foldPath p q) ≡ folder k → putIn p (q ++ r) x t ≡ putIn p q (putIn p r x (folder k)) t
   unfolding putIn reach
-  put-last [] n x t k e = rw e
-  put-last (m ∷ q) n x absent k e = refl
-  put-last (m ∷ q) n x (file c) k e = refl
-  put-last (m ∷ q) n x (folder f) k e = ap (λ (z : Node). folder (updateIn p m z f)) (put-last q n x (entry p (key p m) f) k e)
+  put-below [] r x t k e = rw e
+  put-below (m ∷ q) r x absent k e = refl
+  put-below (m ∷ q) r x (file c) k e = refl
+  put-below (m ∷ q) r x (folder f) k e = ap (λ (z : Node). folder (updateIn p m z f)) (put-below q r x (entry p (key p m) f) k e)
+
+  put-keeps : (q : TreePath) (x t : Node) (k : Forest) → Present x → reach p t (foldPath p q) ≡ folder k → ((c : TreePath) → Present (reach p (folder k) c) → Present (reach p x c))
+      → (c : TreePath) → Present (reach p t c) → Present (reach p (putIn p q x t) c)
+  unfolding putIn reach
+  put-keeps [] x t k h e more c there = more c (rw e at there)
+  put-keeps (n ∷ q) x absent k h e more c there = there
+  put-keeps (n ∷ q) x (file b) k h e more c there = there
+  put-keeps (n ∷ q) x (folder f) k h e more [] there = tt
+  put-keeps (n ∷ q) x (folder f) k h e more (m ∷ c) there = go (cmp m (key p n)) refl (put-keeps q x (entry p (key p n) f) k h e more c)
+    where
+      new : Present (putIn p q x (entry p (key p n) f))
+      new = put-present q x (entry p (key p n) f) k h e
+
+      go : (w : Ordering) → cmp m (key p n) ≡ w → (Present (reach p (entry p (key p n) f) c) → Present (reach p (putIn p q x (entry p (key p n) f)) c))
+          → Present (reach p (entry p m (updateIn p n (putIn p q x (entry p (key p n) f)) f)) c)
+      go Ordering·lt v ih = rw (entry-other p n m (λ u. never (cc)) _ new f) there
+      go Ordering·eq v ih = rw (cmp-eq m (key p n) v, entry-same p n _ new f) (ih (rw (cmp-eq m (key p n) v) at there))
+      go Ordering·gt v ih = rw (entry-other p n m (λ u. never (cc)) _ new f) there
 
   -- what stands there already, put there
   put-at : (q : TreePath) (t : Node) → SortedNode (foldNode p t) → putIn p q (reach p t (foldPath p q)) t ≡ t
@@ -129,7 +147,8 @@ module _ {p : Profile} {q : TreePath} {k f : Forest} (h : Has p q k f) where
   fill-same = ap kids (rw (h .here) at (put-at p q (folder f) (h .sorted)))
 
   pub fill-last : (n : Name) (x : Node) → kids (putIn p (q ++ (n ∷ [])) x (folder f)) ≡ fill p q (updateIn p n x k) f
-  fill-last n x = ap kids (put-last p q n x (folder f) k (h .here))
+  unfolding putIn
+  fill-last n x = ap kids (put-below p q (n ∷ []) x (folder f) k (h .here))
 
   pub has-entry : (n : Name) → atKey p f (q ++ (n ∷ [])) ≡ find (key p n) (fold p k)
   unfolding at
@@ -140,3 +159,18 @@ module _ {p : Profile} {q : TreePath} {k f : Forest} (h : Has p q k f) where
   size-fill j =
       let e = size-put (foldPath p q) (folder (fold p j)) (folder (fold p f)) (h .sorted) has-parent in
       omega (arith, ap rowCount (fold-fill p q j f), ap rowCount here-key, size-fold p f, size-fold p j, size-fold p k, size-fold p (fill p q j f))
+
+  pub fill-below : (r : TreePath) (j : Forest) → fill p (q ++ r) j f ≡ fill p q (fill p r j k) f
+  fill-below r j =
+      let e : putIn p (q ++ r) (folder j) (folder f) ≡ putIn p q (folder (fill p r j k)) (folder f) = rw (folder-fill p r j k) (put-below p q r (folder j) (folder f) k (h .here)) in
+      ap kids e
+
+  -- a folder further down
+  pub has-below : {r : TreePath} {j : Forest} → Has p r j k → Has p (q ++ r) j f
+  has-below {r} {j} g =
+      record { sorted = h .sorted; here = rw (path-append p q r, reach-append p (foldPath p q) (foldPath p r) (folder f), h .here) (g .here) }
+
+  -- whatever more it holds, what stood in the tree stands there still
+  pub fill-keeps : (j : Forest) → ((c : TreePath) → Present (reach p (folder k) c) → Present (reach p (folder j) c)) → (c : TreePath) → Present (reach p (folder f) c)
+      → Present (reach p (folder (fill p q j f)) c)
+  fill-keeps j more c there = rw (folder-fill p q j f) (put-keeps p q (folder j) (folder f) k tt (h .here) more c there)

@@ -7,7 +7,7 @@ use Rattle.listing.specs.Accepted.{GoodState, GoodStep}
 use Rattle.listing.specs.Words.{isText, words}
 use Rattle.listing.specs.Reading.{State, Step, Step.stops, Step.goes, lineDoes}
 use Rattle.listing.proofs.Accepted.{good-words}
-use Rattle.listing_layout.specs.Blocks.{andThen, through}
+use Rattle.listing_layout.specs.Parts.{andThen, through}
 
 module _ (p : Profile) (most : ℕ) where
   lines-kept : (ls : List (List ℕ)) (s : State) → GoodState p most s → GoodStep p most (through p most ls s)

@@ -4,12 +4,13 @@ pub mod Comments
 pub mod Runs
 pub mod Said
 pub mod Sorts
-pub mod Known
+pub mod Does
 pub mod Good
 pub mod Siblings
+pub mod Merge
 pub mod Fill
 pub mod Place
-pub mod Blocks
+pub mod Parts
 pub mod Order
 pub mod Relaid
 pub mod Examples

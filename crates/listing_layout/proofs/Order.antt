@@ -1,103 +1,116 @@
 -- The order in which a folder's entries are listed changes nothing.
 use mathlib.Core.Path.{_≡_, refl, ap, sym, subst, _∙_}
-use mathlib.Core.List.{List, [], _++_, append-assoc, append-nil}
+use mathlib.Core.List.{List, _++_, append-assoc}
 use native.Mathlib.Omega.{arith}
 use lib.ListN.{length, length-append}
-use Prim.Native.Nat.{ℕ, suc, _≤_}
-use Rattle.tree.specs.Name.{Name}
-use Rattle.tree.specs.Forest.{Forest, Node, Node.absent, Node.file, Node.folder, TreePath, Present, Sorted, find, kids, size}
-use Rattle.tree.specs.Key.{fold, foldNode, foldPath, key, updateIn}
+use Prim.Native.Nat.{ℕ, suc, _+_, _<_, _≤_}
+use Rattle.tree.specs.Forest.{Forest, Node, Node.absent, Node.file, Node.folder, TreePath, kids, size}
+use Rattle.tree.specs.Key.{entry, foldPath}
 use Rattle.tree.specs.declared.Profile.{Profile}
-use Rattle.tree.proofs.Order.{flip, cmp-eq, cmp-flip}
-use Rattle.tree.proofs.Forest.{Differ}
-use Rattle.tree.proofs.Put.{find-update-same, find-update-other}
-use Rattle.tree.proofs.Folds.{present-fold, reach, reach-fold}
-use Rattle.tree.proofs.Spots.{fold-updateIn}
-use Rattle.listing.specs.Accepted.{Inside, IsFolder}
+use Rattle.tree.proofs.Folds.{reach}
+use Rattle.listing.specs.Accepted.{GoodState, Inside}
 use Rattle.listing.specs.Lines.{lines}
 use Rattle.listing.specs.Entries.{Said, Said.none}
-use Rattle.listing.specs.Reading.{State, State.before, State.inside, Step.goes, Outcome.accepted, inForce, endsInLF, mostRows, reading}
+use Rattle.listing.specs.Reading.{State, State.before, State.inside, Step.goes, Outcome.accepted, endsInLF, mostRows, reading}
 use Rattle.listing_layout.specs.Whole.{pieces}
-use Rattle.listing_layout.specs.Blocks.{through, Block}
-use Rattle.listing_layout.specs.Order.{Neighbours, Reordered.same, Reordered.swapped, OrderChangesNothing}
+use Rattle.listing_layout.specs.Parts.{through}
+use Rattle.listing_layout.specs.Order.{InTurn, Neighbours, Reordered.same, Reordered.swapped, OrderChangesNothing}
 use Rattle.listing_layout.proofs.Whole.{pieces-append, ends-after}
 use Rattle.listing_layout.proofs.Good.{good-through}
-use Rattle.listing_layout.proofs.Runs.{run-goes, run-back, passed}
-use Rattle.listing_layout.proofs.Siblings.{sorted-updateIn, update-swap}
-use Rattle.listing_layout.proofs.Fill.{fill, has-sorted, fill-fill}
-use Rattle.listing_layout.proofs.Place.{In, Free, has}
-use Rattle.listing_layout.proofs.Blocks.{through-append, both, Puts, Fills, fills-none, fills-block, PutIn, begun, block-in}
+use Rattle.listing_layout.proofs.Runs.{both, through-append, run-goes, run-back, passed}
+use Rattle.listing_layout.proofs.Merge.{Apart, free-both, merge, merge-free, merge-swap}
+use Rattle.listing_layout.proofs.Fill.{fill, Has, fill-fill}
+use Rattle.listing_layout.proofs.Place.{inside-has}
+use Rattle.listing_layout.proofs.Parts.{Suits, given, given-deep, has-given, part-back, part-on, part-sorted, size-given}
 
-folder-of : (p : Profile) (x : Node) → IsFolder (foldNode p x) → x ≡ folder (kids x)
-folder-of p absent h = absurd h
-folder-of p (file c) h = absurd h
-folder-of p (folder k) h = refl
+-- two parts in turn, x first, in the folder at q of the tree f, which has the entries j
+module _ (p : Profile) (most : ℕ) (q : TreePath) (j f : Forest) (h : Has p q j f) (room : 0 < most) (d : Said) (x y : List ℕ) (k l : Forest) (e : Said)
+    (X : InTurn p most d x k y l e) where
+  -- they were accepted
+  record Both : Type 0 where
+    apart-x : Apart p j k
+    apart-y : Apart p (merge p j k) l
+    last : Inside p most (fill p q (merge p (merge p j k) l) f) q
 
--- two entries put, one after the other
-two-puts : {p : Profile} {most : ℕ} {q : TreePath} {d : Said} {k : Forest} {n m : Name} {x y : Node} {xs ys : List (List ℕ)} → Sorted (fold p k)
-    → Puts p most q d n x xs → Puts p most q d m y ys → Free p n k → Free p m (updateIn p n x k)
-    → Fills p most q d d k (updateIn p m y (updateIn p n x k)) (xs ++ ys)
-two-puts {p} {k = k} {n = n} {m = m} {x = x} {y = y} {xs = xs} {ys = ys} sk P Q fn fm =
-    let sn = sorted-updateIn p n x (P .sorted) k sk in
-    let sm = sorted-updateIn p m y (Q .sorted) (updateIn p n x k) sn in
-    fills-block n x xs ys sk P fn (rw (append-nil ys) at (fills-block m y ys [] sn Q fm (fills-none _ sm)))
+  mid : Has p q (merge p j k) (given p q j f k)
+  mid = has-given h k (part-sorted h room (pieces x) d (X .first))
 
--- whether a key is free once n is in
-module _ (p : Profile) (n m : Name) (x : Node) (k : Forest) where
-  taken : Sorted (fold p k) → Present x → Free p m (updateIn p n x k) → Differ (key p m) (key p n)
-  taken sk h free e =
-      let same : find (key p n) (fold p (updateIn p n x k)) ≡ foldNode p x = rw (fold-updateIn p n x k) (find-update-same (key p n) (foldNode p x) (fold p k) sk) in
-      subst Present (sym same ∙ rw (cmp-eq (key p m) (key p n) e) at free) (present-fold p x h)
+  both-back : Inside p most f q → (s : State) → through p most (pieces x ++ pieces y) (inside f q d) ≡ goes s
+      → (s ≡ inside (fill p q (merge p (merge p j k) l) f) q e) × Both
+  both-back t s g =
+      let b = both _ _ s (rw (through-append p most (pieces x) (pieces y) (inside f q d)) at g) in
+      let one = part-back h room (pieces x) d (X .first) (b .between) (b .first) in
+      let two = part-back mid room (pieces y) (X .between) (X .second) s (rw (one .0) at (b .second)) in
+      let same = fill-fill h (merge p j k) (merge p (merge p j k) l) in
+      let end-is : s ≡ inside (fill p q (merge p (merge p j k) l) f) q e = two .0 ∙ ap (λ (z : Forest). inside z q e) same in (
+        end-is,
+        record {
+          apart-x = one .1;
+          apart-y = two .1;
+          last = subst (GoodState p most) end-is (good-through p most (pieces x ++ pieces y) (inside f q d) s t g);
+        },
+      )
 
-  free-other : Differ (key p m) (key p n) → find (key p m) (fold p (updateIn p n x k)) ≡ find (key p m) (fold p k)
-  free-other d = rw (fold-updateIn p n x k) (find-update-other (key p n) (foldNode p x) (key p m) d (fold p k))
+  both-on : Suits p most q j f k → Suits p most q (merge p j k) (given p q j f k) l
+      → through p most (pieces x ++ pieces y) (inside f q d) ≡ goes (inside (fill p q (merge p (merge p j k) l) f) q e)
+  both-on a b =
+      rw (through-append p most (pieces x) (pieces y) (inside f q d), part-on h room (pieces x) d (X .first) a)
+      (part-on mid room (pieces y) (X .between) (X .second) b ∙ ap (λ (z : Forest). goes (inside z q e)) (fill-fill h (merge p j k) (merge p (merge p j k) l)))
 
-module _ {p : Profile} {most : ℕ} {q : TreePath} {k f : Forest} {ds : List Said} (i : In p most q (inForce ds) k f ds) {xs ys : List (List ℕ)} where
-  -- two entries have two keys, so that either may come first
-  swap-in : (A : PutIn p most q (inForce ds) k f xs)
-      → PutIn p most q (inForce ds) (updateIn p (A .name) (A .node) k) (fill p q (updateIn p (A .name) (A .node) k) f) ys
-      → (t : State) × (through p most (xs ++ ys) (inside f q ds) ≡ goes t) × (through p most (ys ++ xs) (inside f q ds) ≡ goes t)
-  swap-in A B =
-      let n = A .name in
-      let m = B .name in
-      let x = A .node in
-      let y = B .node in
-      let sk = has-sorted (has i) in
-      let differ : Differ (key p m) (key p n) = taken p n m x k sk (A .puts .there) (B .free) in
-      let fm : Free p m k = sym (free-other p n m x k differ) ∙ B .free in
-      let fn : Free p n (updateIn p m y k) = free-other p m n y k (λ e. differ (cmp-flip (key p n) (key p m) ∙ ap flip e)) ∙ A .free in
-      let F = two-puts sk (A .puts) (B .puts) (A .free) (B .free) in
-      let G = two-puts sk (B .puts) (A .puts) fm fn in
-      let swap = update-swap p n m x y (A .puts .there) (B .puts .there) differ k in
-      let room : suc (size (fill p q (updateIn p m y (updateIn p n x k)) f)) ≤ most = rw (fill-fill (has i) (updateIn p n x k) (updateIn p m y (updateIn p n x k))) at (B .room) in
-      (_, F .does f ds i room, rw swap at (G .does f ds i (rw swap room)))
+-- no key is both one of k and one of l
+apart-both : (p : Profile) (j k l : Forest) → Apart p (merge p j k) l → Apart p l k
+apart-both p j k l a c u = go (entry p c l) refl
+  where
+    go : (z : Node) → entry p c l ≡ z → z ≡ absent
+    go absent v = refl
+    go (file b) v = absurd (rw (free-both p c j k (a c (rw v tt)) .0) at u)
+    go (folder i) v = absurd (rw (free-both p c j k (a c (rw v tt)) .0) at u)
 
-  swap-blocks : Block p (inForce ds) xs → Block p (inForce ds) ys → (s : State) → through p most (xs ++ ys) (inside f q ds) ≡ goes s
-      → through p most (ys ++ xs) (inside f q ds) ≡ goes s
-  swap-blocks X Y s e =
-      let b = begun xs ys (block-in X) most q k f ds s i e in
-      let r = swap-in (b .put) (block-in Y most q _ _ ds s (b .next) (b .rest)) in
-      let one = r .1 in
-      let other = r .2 in
-      cc
+-- either may come first
+swap-parts : (p : Profile) (most : ℕ) (q : TreePath) (f : Forest) (d : Said) (x y : List ℕ) (k l : Forest) (e : Said) → Inside p most f q
+    → InTurn p most d x k y l e → InTurn p most d y l x k e → (s : State) → through p most (pieces x ++ pieces y) (inside f q d) ≡ goes s
+    → through p most (pieces y ++ pieces x) (inside f q d) ≡ goes s
+swap-parts p most q f d x y k l e t X Y s g =
+    let j = kids (reach p (folder f) (foldPath p q)) in
+    let h = inside-has p most f q t in
+    let full = t .fit .room in
+    let room : 0 < most = omega arith in
+    let b = both-back p most q j f h room d x y k l e X t s g in
+    let B = b .1 in
+    let sk = part-sorted h room (pieces x) d (X .first) in
+    let sl = part-sorted h room (pieces y) d (Y .first) in
+    let apart-l : Apart p j l = λ c u. free-both p c j k (B .apart-y c u) .1 in
+    let apart = apart-both p j k l (B .apart-y) in
+    let swap : merge p (merge p j k) l ≡ merge p (merge p j l) k = merge-swap p j l k apart in
+    let rows = B .last .fit .room in
+    let same = fill-fill h (merge p j k) (merge p (merge p j k) l) in
+    let all : suc (size f + size k + size l) ≤ most = omega (arith, ap size same, size-given (has-given h k sk) l sl (B .apart-y), size-given h k sk (B .apart-x)) in
+    let one : Suits p most q j f l = record {
+      apart = apart-l;
+      deep = given-deep {most = most} (has-given h k sk) l sl (rw same (B .last));
+      room = omega arith;
+    } in
+    let two : Suits p most q (merge p j l) (given p q j f l) k = record {
+      apart = λ c u. merge-free p c j l (apart c u) (B .apart-x c u);
+      deep = given-deep {most = most} (has-given h l sl) k sk (rw (fill-fill h (merge p j l) (merge p (merge p j l) k), ← swap) (B .last));
+      room = omega (arith, size-given h l sl apart-l);
+    } in
+    both-on p most q j f h room d y x l k e Y one two ∙ rw (← swap) (ap goes (sym (b .0)))
 
--- the lines of two neighbours, between any lines
-swap-lines : (p : Profile) (most : ℕ) (ls xs ys bs : List (List ℕ)) (f : Forest) (q : TreePath) (ds : List Said)
-    → through p most ls (before none) ≡ goes (inside f q ds) → Block p (inForce ds) xs → Block p (inForce ds) ys → (s : State)
-    → through p most (ls ++ (xs ++ (ys ++ bs))) (before none) ≡ goes s → through p most (ls ++ (ys ++ (xs ++ bs))) (before none) ≡ goes s
-swap-lines p most ls xs ys bs f q ds leads X Y s e =
-    let good : Inside p most f q ds = good-through p most ls (before none) (inside f q ds) tt leads in
-    let x : Node = reach p (folder f) (foldPath p q) in
-    let there : IsFolder (foldNode p x) = rw (reach-fold p (foldPath p q) (folder f)) (good .here) in
-    let i : In p most q (inForce ds) (kids x) f ds = record { good = good; force = refl; here = folder-of p x there } in
-    let rest = rw (through-append p most ls (xs ++ (ys ++ bs)), leads, ← append-assoc xs ys bs, through-append p most (xs ++ ys) bs) at e in
+-- two neighbours, between any lines
+swap-lines : (p : Profile) (most : ℕ) (ls bs : List (List ℕ)) (f : Forest) (q : TreePath) (d : Said) (x y : List ℕ) (k l : Forest) (e : Said)
+    → through p most ls (before none) ≡ goes (inside f q d) → InTurn p most d x k y l e → InTurn p most d y l x k e → (s : State)
+    → through p most (ls ++ (pieces x ++ (pieces y ++ bs))) (before none) ≡ goes s → through p most (ls ++ (pieces y ++ (pieces x ++ bs))) (before none) ≡ goes s
+swap-lines p most ls bs f q d x y k l e leads X Y s g =
+    let good : Inside p most f q = good-through p most ls (before none) (inside f q d) tt leads in
+    let rest = rw (through-append p most ls (pieces x ++ (pieces y ++ bs)), leads, ← append-assoc (pieces x) (pieces y) bs, through-append p most (pieces x ++ pieces y) bs) at g in
     let b = both _ _ s rest in
     rw (
-      through-append p most ls (ys ++ (xs ++ bs)),
+      through-append p most ls (pieces y ++ (pieces x ++ bs)),
       leads,
-      ← append-assoc ys xs bs,
-      through-append p most (ys ++ xs) bs,
-      swap-blocks i X Y (b .between) (b .first),
+      ← append-assoc (pieces y) (pieces x) bs,
+      through-append p most (pieces y ++ pieces x) bs,
+      swap-parts p most q f d x y k l e good X Y (b .between) (b .first),
     ) (b .second)
 
 module _ (p : Profile) (most : ℕ) (a x y b : List ℕ) (N : Neighbours p most a x y) where
@@ -129,10 +142,13 @@ turned N =
       whole-y = N .whole-x;
       tree = N .tree;
       path = N .path;
-      defaults = N .defaults;
+      default = N .default;
       open-there = N .open-there;
-      block-x = N .block-y;
-      block-y = N .block-x;
+      entries-x = N .entries-y;
+      entries-y = N .entries-x;
+      left = N .left;
+      x-first = N .y-first;
+      y-first = N .x-first;
     }
 
 swap-text : (p : Profile) (a x y b : List ℕ) (room : ℕ) (f : Forest) → Neighbours p (mostRows room) a x y → reading p (a ++ (x ++ (y ++ b))) room ≡ accepted f
@@ -142,7 +158,7 @@ swap-text p a x y b room f N e =
     let most = mostRows room in
     let P = passed p (a ++ (x ++ (y ++ b))) room f e in
     let R = run-back p most (lines (a ++ (x ++ (y ++ b)))) (before none) f (P .runs) in
-    let swap = swap-lines p most (pieces a) (pieces x) (pieces y) (pieces b) (N .tree) (N .path) (N .defaults) (N .open-there) (N .block-x) (N .block-y) (R .0)
+    let swap = swap-lines p most (pieces a) (pieces b) (N .tree) (N .path) (N .default) x y (N .entries-x) (N .entries-y) (N .left) (N .open-there) (N .x-first) (N .y-first) (R .0)
     (rw (pieces-before p most a x y b N) at (R .1)) in
     let goes-on : through p most (pieces (a ++ (y ++ (x ++ b)))) (before none) ≡ goes (R .0) = rw (pieces-before p most a y x b (turned N)) swap in
     rw (ends-swapped p most a x y b N, length-swapped p most a x y b N, P .form) (run-goes p most (lines (a ++ (y ++ (x ++ b)))) (before none) (R .0) goes-on ∙ R .2)

@@ -1,128 +1,154 @@
--- An entry placed in a folder whose entries are known, and the folder closed again.
-use mathlib.Core.Path.{_≡_, refl, ap, sym, subst, _∙_}
-use mathlib.Core.List.{List, [], _∷_, _++_}
+-- An entry placed in a folder whose entries are known, and where that leaves the path; a folder closed; and the same in a tree
+-- among whose entries others were merged.
+use mathlib.Core.Path.{_≡_, refl, ap, sym, _∙_}
+use mathlib.Core.List.{[], _∷_, _++_, append-assoc}
 use mathlib.Core.Bool.{Bool, true, false, cond}
 use native.Mathlib.Omega.{arith}
 use lib.Dec.{leb, ltb}
-use lib.ListN.{length, set, length-append, length-set}
-use lib.Seq.{getD-at, getD-set-same, set-at}
-use Prim.Native.Nat.{ℕ, suc, _+_, _-_, _<_}
+use lib.ListN.{length, getD}
+use Prim.Native.Nat.{ℕ, suc, _+_, _-_, _<_, Ordering, Ordering·lt, Ordering·eq, Ordering·gt}
 use borrow.Author.Tests.{lt-leb, lt-ltb, leb-false, ltb-true}
-use Rattle.tree.specs.Name.{Name}
-use Rattle.tree.specs.Forest.{Forest, Forest.end, Node, Node.absent, Node.file, Node.folder, TreePath, Sorted, at, find, kids, size}
-use Rattle.tree.specs.Put.{put, Reaches}
-use Rattle.tree.specs.Key.{key, fold, foldNode, foldPath, putIn, updateIn}
+use Rattle.tree.specs.Name.{Name, cmp}
+use Rattle.tree.specs.Forest.{Forest, Node, Node.absent, Node.file, Node.folder, TreePath, Present, Sorted, kids, size}
+use Rattle.tree.specs.Key.{key, fold, foldNode, foldPath, entry, putIn, updateIn}
 use Rattle.tree.specs.declared.Profile.{Profile}
 use Rattle.tree.proofs.Never.{never}
-use Rattle.tree.proofs.Size.{size-put, rowCount}
-use Rattle.tree.proofs.Folds.{reach, size-fold}
-use Rattle.tree.proofs.Spots.{fold-updateIn, path-append}
-use Rattle.listing.specs.Accepted.{GoodStep, Inside}
-use Rattle.listing.specs.Entries.{Said, Said.none}
-use Rattle.listing.specs.Reading.{State, State.inside, Step.stops, Step.goes, atKey, inForce, close, isAbsent, opened, placed}
-use Rattle.listing.proofs.Kept.{good-default}
-use Rattle.listing.proofs.Entered.{good-placed, is-absent}
+use Rattle.tree.proofs.Order.{cmp-eq}
+use Rattle.tree.proofs.Folds.{entry-fold, fold-absent, reach, reach-absent, reach-fold}
+use Rattle.tree.proofs.Size.{rowCount}
+use Rattle.listing.specs.Accepted.{Inside, IsFolder}
+use Rattle.listing.specs.Entries.{Said}
+use Rattle.listing.specs.Reading.{State, State.inside, Step.stops, Step.goes, atKey, close, front, isAbsent, opened, placed}
+use Rattle.listing.proofs.Kept.{split-last}
+use Rattle.listing.proofs.Entered.{is-absent}
 use Rattle.listing.proofs.Steps.{close-last}
-use Rattle.listing_layout.proofs.Known.{Entering}
-use Rattle.listing_layout.proofs.Siblings.{entry-same, sorted-updateIn, update-twice}
-use Rattle.listing_layout.proofs.Fill.{fill, Has, has-sorted, has-entry, fill-has, fill-fill, fill-last, reach-append, size-fill}
+use Rattle.listing_layout.proofs.Siblings.{entry-other, entry-same}
+use Rattle.listing_layout.proofs.Merge.{Apart, entry-merge, free-both, merge, merge-free, merge-update, or-there, size-new, sorted-merge}
+use Rattle.listing_layout.proofs.Fill.{fill, Has, has-sorted, has-entry, fill-last, put-present, size-fill}
 
--- a state in which the folder last opened is at q, has the entries k, and d is the default
-pub record In (p : Profile) (most : ℕ) (q : TreePath) (d : Said) (k f : Forest) (ds : List Said) : Type 0 where
-  pub good : Inside p most f q ds
-  pub force : inForce ds ≡ d
-  pub here : reach p (folder f) (foldPath p q) ≡ folder k
+folder-of : (p : Profile) (x : Node) → IsFolder (foldNode p x) → x ≡ folder (kids x)
+folder-of p absent h = absurd h
+folder-of p (file c) h = absurd h
+folder-of p (folder k) h = refl
 
-pub has : {p : Profile} {most : ℕ} {q : TreePath} {d : Said} {k f : Forest} {ds : List Said} → In p most q d k f ds → Has p q k f
-has i = record { sorted = i .good .fit .good .sorted; here = i .here }
-
--- one default for another
-pub in-default : {p : Profile} {most : ℕ} {q : TreePath} {d : Said} {k f : Forest} {ds : List Said} (e : Said) → In p most q d k f ds
-    → In p most q e k f (set ds (length ds - 1) e)
-in-default {p} {most} {q} {d} {k} {f} {ds} e i =
-    let each = i .good .each in
-    record {
-      good = good-default p most e (inside f q ds) (i .good);
-      force = rw (length-set ds (length ds - 1) e, getD-set-same ds (length ds - 1) e none (omega arith));
-      here = i .here;
-    }
-
--- no entry of the folder has the key of n
-abbrev pub Free : Profile → Name → Forest → Type 0
-Free p n k = find (key p n) (fold p k) ≡ absent
-
-rows-fold : (p : Profile) (x : Node) → rowCount (foldNode p x) ≡ rowCount x
-rows-fold p absent = refl
-rows-fold p (file c) = refl
-rows-fold p (folder k) = ap suc (size-fold p k)
-
-pub size-new : (p : Profile) (n : Name) (x : Node) (k : Forest) → Sorted (fold p k) → Free p n k → size (updateIn p n x k) ≡ size k + rowCount x
-unfolding put at Reaches
-size-new p n x k sk e =
-    omega (arith, size-put (key p n ∷ []) (foldNode p x) (folder (fold p k)) sk tt, ap rowCount e, rows-fold p x, ap size (fold-updateIn p n x k), size-fold p k, size-fold p (updateIn p n x k))
+-- the entries of the folder last opened
+pub inside-has : (p : Profile) (most : ℕ) (f : Forest) (q : TreePath) → Inside p most f q → Has p q (kids (reach p (folder f) (foldPath p q))) f
+inside-has p most f q h =
+    record { sorted = h .fit .good .sorted; here = folder-of p (reach p (folder f) (foldPath p q)) (rw (reach-fold p (foldPath p q) (folder f)) (h .here)) }
 
 -- there is a place for one row more, called n
 pub record Place (p : Profile) (most : ℕ) (q : TreePath) (k f : Forest) (n : Name) : Type 0 where
   pub less : length q < 16
-  pub free : Free p n k
+  pub free : entry p (key p n) k ≡ absent
   pub room : suc (size f) < most
 
-module _ {p : Profile} {most : ℕ} {q : TreePath} {d : Said} {k f : Forest} {ds : List Said} (i : In p most q d k f ds) (n : Name) (x : Node) where
-  pub placed-goes : Place p most q k f n → placed p most n x f q ds ≡ goes (opened n x (fill p q (updateIn p n x k) f) q ds)
-  unfolding placed
-  placed-goes P =
-      rw (lt-leb 16 (length q) (P .less), has-entry (has i) n, P .free, lt-ltb (suc (size f)) most (P .room), fill-last (has i) n x)
+module _ {p : Profile} {q : TreePath} {k f : Forest} (h : Has p q k f) (n : Name) where
+  found : atKey p f (q ++ (n ∷ [])) ≡ foldNode p (entry p (key p n) k)
+  found = has-entry h n ∙ sym (entry-fold p (key p n) k)
 
-  pub placed-back : {s : State} → placed p most n x f q ds ≡ goes s → Place p most q k f n
+  pub size-placed : (x : Node) → entry p (key p n) k ≡ absent → size (fill p q (updateIn p n x k) f) ≡ size f + rowCount x
+  size-placed x e = omega (arith, size-fill h (updateIn p n x k), size-new p n x k (has-sorted h) e)
+
+module _ {p : Profile} {most : ℕ} {q : TreePath} {k f : Forest} (h : Has p q k f) (n : Name) (x : Node) (d : Said) where
+  pub placed-goes : Place p most q k f n → placed p most n x f q d ≡ goes (opened n x (fill p q (updateIn p n x k) f) q d)
   unfolding placed
-  placed-back {s} e = go (leb 16 (length q)) (isAbsent (atKey p f (q ++ (n ∷ [])))) (ltb (suc (size f)) most) refl refl refl e
+  placed-goes P = rw (lt-leb 16 (length q) (P .less), found h n, P .free, lt-ltb (suc (size f)) most (P .room), fill-last h n x)
+
+  pub placed-back : (s : State) → placed p most n x f q d ≡ goes s → Place p most q k f n
+  unfolding placed
+  placed-back s e = go (leb 16 (length q)) (isAbsent (atKey p f (q ++ (n ∷ [])))) (ltb (suc (size f)) most) refl refl refl e
     where
       go : (t u v : Bool) → leb 16 (length q) ≡ t → isAbsent (atKey p f (q ++ (n ∷ []))) ≡ u → ltb (suc (size f)) most ≡ v
-          → cond t (stops 14) (cond u (cond v (goes (opened n x (kids (putIn p (q ++ (n ∷ [])) x (folder f))) q ds)) (stops 3)) (stops 13)) ≡ goes s
+          → cond t (stops 14) (cond u (cond v (goes (opened n x (kids (putIn p (q ++ (n ∷ [])) x (folder f))) q d)) (stops 3)) (stops 13)) ≡ goes s
           → Place p most q k f n
-      go true u v a b c h = never (cc)
-      go false false v a b c h = never (cc)
-      go false true false a b c h = never (cc)
-      go false true true a b c h =
-          record { less = leb-false 16 (length q) a; free = sym (has-entry (has i) n) ∙ is-absent _ b; room = ltb-true (suc (size f)) most c }
+      go true u v a b c z = never (cc)
+      go false false v a b c z = never (cc)
+      go false true false a b c z = never (cc)
+      go false true true a b c z =
+          record { less = leb-false 16 (length q) a; free = fold-absent p _ (sym (found h n) ∙ is-absent _ b); room = ltb-true (suc (size f)) most c }
 
-  pub size-placed : Free p n k → size (fill p q (updateIn p n x k) f) ≡ size f + rowCount x
-  size-placed e = omega (arith, size-fill (has i) (updateIn p n x k), size-new p n x k (has-sorted (has i)) e)
+-- a folder entry opens itself, below any path
+pub opens : (n : Name) (x : Node) (r : TreePath) → Present x → (u : TreePath) × ((q : TreePath) (f : Forest) (d : Said) → opened n x f (q ++ r) d ≡ inside f (q ++ u) d)
+opens n absent r h = absurd h
+opens n (file c) r h = (r, λ q f d. refl)
+opens n (folder k) r h = (r ++ (n ∷ []), λ q f d. rw (append-assoc q r (n ∷ [])))
 
--- a folder that has been opened, and its default
-pub close-set : (f : Forest) (q : TreePath) (m : Name) (ds : List Said) (d e : Said)
-    → close f (q ++ (m ∷ [])) (set (ds ++ (d ∷ [])) (length (ds ++ (d ∷ [])) - 1) e) ≡ inside f q ds
-close-set f q m ds d e =
-    rw (set-at ds d [] e (length (ds ++ (d ∷ [])) - 1) (omega (arith, length-append ds (d ∷ [])))) (close-last f q m ds e)
+pub closes : (q r : TreePath) → 0 < length r → (f : Forest) (d : Said) → close f (q ++ r) d ≡ inside f (q ++ front r) d
+closes q r some f d =
+    let m : Name = getD r (length r - 1) [] in
+    ap (λ (u : TreePath). close f (q ++ u) d) (split-last r some) ∙ ap (λ (u : TreePath). close f u d) (sym (append-assoc q (front r) (m ∷ [])))
+    ∙ close-last f (q ++ front r) m d
 
-module _ {p : Profile} {most : ℕ} {q : TreePath} {d : Said} {k f : Forest} {ds : List Said} (i : In p most q d k f ds) (n : Name) (l : List ℕ)
-    (E : Entering p d n (folder end) l) (P : Place p most q k f n) where
-  abbrev pub entered-tree : Forest
-  entered-tree = fill p q (updateIn p n (folder end) k) f
+-- an entry more, and what stood in the folder stands there still
+pub new-keeps : (p : Profile) (n : Name) (x : Node) (k : Forest) → Present x → entry p (key p n) k ≡ absent → (c : TreePath) → Present (reach p (folder k) c)
+    → Present (reach p (folder (updateIn p n x k)) c)
+unfolding reach
+new-keeps p n x k h free [] there = tt
+new-keeps p n x k h free (m ∷ c) there = go (cmp m (key p n)) refl
+  where
+    go : (w : Ordering) → cmp m (key p n) ≡ w → Present (reach p (entry p m (updateIn p n x k)) c)
+    go Ordering·lt v = rw (entry-other p n m (λ u. never (cc)) x h k) there
+    go Ordering·eq v = absurd (rw (cmp-eq m (key p n) v, free, reach-absent p c) at there)
+    go Ordering·gt v = rw (entry-other p n m (λ u. never (cc)) x h k) there
 
-  k-new : Sorted (fold p (updateIn p n (folder end) k))
-  unfolding fold Sorted
-  k-new = sorted-updateIn p n (folder end) tt k (has-sorted (has i))
+-- the entries of the open folder, once j was merged with the entries of the root
+abbrev pub among : Profile → Forest → TreePath → Forest → Forest
+among p j [] k = merge p j k
+among p j (m ∷ r) k = k
 
-  has-new : Has p q (updateIn p n (folder end) k) entered-tree
-  has-new = fill-has (has i) (updateIn p n (folder end) k) k-new
+module _ (p : Profile) (j : Forest) where
+  below-there : (m : Name) (r : TreePath) (f k : Forest) → reach p (entry p (key p m) f) r ≡ folder k → Present (entry p (key p m) f)
+  below-there m r f k e = go (entry p (key p m) f) refl
+    where
+      go : (x : Node) → entry p (key p m) f ≡ x → Present x
+      go absent z = let u = reach-absent p r in never (cc)
+      go (file c) z = tt
+      go (folder i) z = tt
 
-  opened-here : reach p (folder entered-tree) (foldPath p (q ++ (n ∷ []))) ≡ folder end
+  pub has-among : Sorted (fold p j) → (r : TreePath) (k f : Forest) → Has p r k f → Has p r (among p j r k) (merge p j f)
   unfolding reach
-  opened-here =
-      rw (path-append p q (n ∷ []), reach-append p (foldPath p q) (key p n ∷ []) (folder entered-tree), has-new .here)
-      (entry-same p n (folder end) tt k)
+  has-among sj [] k f h =
+      let e = h .here in
+      let same : f ≡ k = cc in
+      record { sorted = sorted-merge p j sj f (h .sorted); here = rw same }
+  has-among sj (m ∷ r) k f h =
+      let same = entry-merge p (key p m) j f ∙ or-there (entry p (key p m) f) (entry p (key p m) j) (below-there m (foldPath p r) f k (h .here)) in
+      record { sorted = sorted-merge p j sj f (h .sorted); here = ap (λ (x : Node). reach p x (foldPath p r)) same ∙ h .here }
 
-  pub in-folder : In p most (q ++ (n ∷ [])) d end entered-tree (ds ++ (inForce ds ∷ []))
-  in-folder =
-      record {
-        good = subst (GoodStep p most) (placed-goes i n (folder end) P) (good-placed p most n (folder end) f q ds (E .rule) (E .row) (i .good));
-        force = getD-at ds (inForce ds) [] none (length (ds ++ (inForce ds ∷ [])) - 1) (omega (arith, length-append ds (inForce ds ∷ []))) ∙ i .force;
-        here = opened-here;
-      }
+  pub fill-among : (r : TreePath) (k f i : Forest) → Has p r k f → fill p r (among p j r i) (merge p j f) ≡ merge p j (fill p r i f)
+  unfolding reach putIn
+  fill-among [] k f i h = refl
+  fill-among (m ∷ r) k f i h =
+      let there = below-there m (foldPath p r) f k (h .here) in
+      rw (entry-merge p (key p m) j f, or-there (entry p (key p m) f) (entry p (key p m) j) there)
+      (sym (merge-update p j m _ (put-present p r (folder i) (entry p (key p m) f) k tt (h .here)) f))
 
-  -- once its entries are j, the tree is the one that had them from the start
-  pub fill-folder : (j : Forest) → fill p (q ++ (n ∷ [])) j entered-tree ≡ fill p q (updateIn p n (folder j) k) f
-  fill-folder j =
-      fill-last has-new n (folder j)
-      ∙ rw (update-twice p n (folder j) (folder end) tt k) (fill-fill (has i) (updateIn p n (folder end) k) (updateIn p n (folder j) k))
+  pub new-among : (r : TreePath) (n : Name) (x : Node) (k : Forest) → Present x → among p j r (updateIn p n x k) ≡ updateIn p n x (among p j r k)
+  new-among [] n x k h = merge-update p j n x h k
+  new-among (m ∷ r) n x k h = refl
+
+  -- a new name is free among all, or was so in j
+  pub free-among : (r : TreePath) (n : Name) (x : Node) (k f : Forest) → Present x → Has p r k f → entry p (key p n) k ≡ absent → Apart p j (fill p r (updateIn p n x k) f)
+      → entry p (key p n) (among p j r k) ≡ absent
+  unfolding putIn
+  free-among [] n x k f h H free a = merge-free p (key p n) j k free (a (key p n) (rw (entry-same p n x h k) h))
+  free-among (m ∷ r) n x k f h H free a = free
+
+  apart-update : (n : Name) (x : Node) (f : Forest) → Present x → entry p (key p n) j ≡ absent → Apart p j f → Apart p j (updateIn p n x f)
+  apart-update n x f h free a c there = go (cmp c (key p n)) refl
+    where
+      go : (w : Ordering) → cmp c (key p n) ≡ w → entry p c j ≡ absent
+      go Ordering·lt v = a c (rw (entry-other p n c (λ u. never (cc)) x h f) at there)
+      go Ordering·eq v = rw (cmp-eq c (key p n) v) free
+      go Ordering·gt v = a c (rw (entry-other p n c (λ u. never (cc)) x h f) at there)
+
+  pub apart-among : (r : TreePath) (n : Name) (x : Node) (k f : Forest) → Present x → Has p r k f → entry p (key p n) (among p j r k) ≡ absent → Apart p j f
+      → Apart p j (fill p r (updateIn p n x k) f)
+  unfolding putIn reach
+  apart-among [] n x k f h H free a =
+      let e = H .here in
+      let same : f ≡ k = cc in
+      apart-update n x k h (free-both p (key p n) j k free .1) (rw same at a)
+  apart-among (m ∷ r) n x k f h H free a =
+      let there = below-there m (foldPath p r) f k (H .here) in
+      apart-update m _ f (put-present p r (folder (updateIn p n x k)) (entry p (key p m) f) k tt (H .here)) (a (key p m) there) a

@@ -1,6 +1,6 @@
--- A run is its lines in turn, and a fault's line.
+-- Lines in turn, one part after the other; and a run is its lines in turn, and a fault's line.
 use mathlib.Core.Path.{_≡_, refl, ap, _∙_}
-use mathlib.Core.List.{List, [], _∷_}
+use mathlib.Core.List.{List, [], _∷_, _++_}
 use mathlib.Core.Bool.{Bool, true, false, cond}
 use Prim.Native.Nat.{ℕ}
 use Rattle.tree.specs.Forest.{Forest}
@@ -10,7 +10,27 @@ use Rattle.listing.specs.Lines.{Line, lines}
 use Rattle.listing.specs.Entries.{Said.none}
 use Rattle.listing.specs.Reading.{State, State.before, Step, Step.stops, Step.goes, Outcome, Outcome.refused, Outcome.accepted, lineDoes, ended, onStep, run, hasForm, mostRows, reading}
 use Rattle.listing_layout.specs.Whole.{bytesOf}
-use Rattle.listing_layout.specs.Blocks.{andThen, through}
+use Rattle.listing_layout.specs.Parts.{andThen, through}
+
+pub through-append : (p : Profile) (most : ℕ) (xs ys : List (List ℕ)) (s : State) → through p most (xs ++ ys) s ≡ andThen (through p most xs s) (λ t. through p most ys t)
+unfolding through
+through-append p most [] ys s = refl
+through-append p most (x ∷ xs) ys s = go (lineDoes p most x s) (through-append p most xs ys)
+  where
+    go : (r : Step) → ((t : State) → through p most (xs ++ ys) t ≡ andThen (through p most xs t) (λ u. through p most ys u))
+        → andThen r (λ t. through p most (xs ++ ys) t) ≡ andThen (andThen r (λ t. through p most xs t)) (λ t. through p most ys t)
+    go (stops n) ih = refl
+    go (goes t) ih = ih t
+
+-- a step, and what comes after it
+pub record Both (r : Step) (k : State → Step) (s : State) : Type 0 where
+  pub between : State
+  pub first : r ≡ goes between
+  pub second : k between ≡ goes s
+
+pub both : (r : Step) (k : State → Step) (s : State) → andThen r k ≡ goes s → Both r k s
+both (stops n) k s e = never (cc)
+both (goes t) k s e = record { between = t; first = refl; second = e }
 
 -- what the last step says, a fault at line i
 abbrev pub verdict : Step → ℕ → Outcome

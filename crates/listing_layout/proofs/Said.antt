@@ -15,7 +15,7 @@ use Rattle.listing.specs.Reading.{State, State.before, State.inside, State.clos
 use Rattle.listing_layout.specs.Whole.{pieces}
 use Rattle.listing_layout.specs.Comments.{silent}
 use Rattle.listing_layout.specs.Said.{saidBy, Alike, WordsDecide}
-use Rattle.listing_layout.specs.Blocks.{andThen, through}
+use Rattle.listing_layout.specs.Parts.{andThen, through}
 use Rattle.listing_layout.proofs.Comments.{silent-does}
 use Rattle.listing_layout.proofs.Runs.{verdict, run-verdict}
 
@@ -79,7 +79,7 @@ module _ (p : Profile) (most : ℕ) where
 
 alike-end : (s : State) → Alike (ended s) (ended s)
 alike-end (before d) = refl
-alike-end (inside f q ds) = refl
+alike-end (inside f q v) = refl
 alike-end (closed f) = refl
 
 alike-verdict : (r : Step) (i j : ℕ) → Alike (verdict r i) (verdict r j)

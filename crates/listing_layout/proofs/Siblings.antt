@@ -29,20 +29,27 @@ module _ (p : Profile) (n : Name) where
           go Ordering·eq e = rw (entry-add p (key p n) m x s h, e)
           go Ordering·gt e = rw (entry-add p (key p n) m y (updateIn p n x s) hy, e) ih
 
-  pub update-twice : (x y : Node) → Present y → (f : Forest) → updateIn p n x (updateIn p n y f) ≡ updateIn p n x f
-  unfolding updateIn
-  update-twice x y h = siblings-ind (λ (f : Forest). updateIn p n x (updateIn p n y f) ≡ updateIn p n x f) (updateIn-add p n n x y end h ∙ rw (cmp-refl (key p n))) more
+  pub entry-other : (k : Name) → Differ k (key p n) → (x : Node) → Present x → (f : Forest) → entry p k (updateIn p n x f) ≡ entry p k f
+  unfolding updateIn entry
+  entry-other k d x h = siblings-ind (λ (f : Forest). entry p k (updateIn p n x f) ≡ entry p k f) (apart n x end h d) more
     where
-      more : (m : Name) (z : Node) (s : Forest) → Present z → updateIn p n x (updateIn p n y s) ≡ updateIn p n x s
-          → updateIn p n x (updateIn p n y (add m z s)) ≡ updateIn p n x (add m z s)
-      more m z s hz ih = rw (updateIn-add p n m y z s hz, updateIn-add p n m x z s hz) (go (cmp (key p n) (key p m)) refl)
+      apart : (m : Name) (y : Node) (s : Forest) → Present y → Differ k (key p m) → entry p k (add m y s) ≡ entry p k s
+      apart m y s hy e = rw (entry-add p k m y s hy) (go (cmp k (key p m)) refl)
         where
-          go : (w : Ordering) → cmp (key p n) (key p m) ≡ w
-              → updateIn p n x (byOrder w (add n y (add m z s)) (add m y s) (add m z (updateIn p n y s)))
-              ≡ byOrder w (add n x (add m z s)) (add m x s) (add m z (updateIn p n x s))
-          go Ordering·lt e = updateIn-add p n n x y (add m z s) h ∙ rw (cmp-refl (key p n))
-          go Ordering·eq e = updateIn-add p n m x y s h ∙ rw e
-          go Ordering·gt e = updateIn-add p n m x z (updateIn p n y s) hz ∙ rw (e, ih)
+          go : (w : Ordering) → cmp k (key p m) ≡ w → ifSame w y (entry p k s) ≡ entry p k s
+          go Ordering·lt q = refl
+          go Ordering·eq q = absurd (e q)
+          go Ordering·gt q = refl
+
+      more : (m : Name) (y : Node) (s : Forest) → Present y → entry p k (updateIn p n x s) ≡ entry p k s → entry p k (updateIn p n x (add m y s)) ≡ entry p k (add m y s)
+      more m y s hy ih = rw (updateIn-add p n m x y s hy) (go (cmp (key p n) (key p m)) refl)
+        where
+          go : (w : Ordering) → cmp (key p n) (key p m) ≡ w → entry p k (byOrder w (add n x (add m y s)) (add m x s) (add m y (updateIn p n x s))) ≡ entry p k (add m y s)
+          go Ordering·lt e = apart n x (add m y s) h d
+          go Ordering·eq e =
+              let other : Differ k (key p m) = rw (cmp-eq (key p n) (key p m) e) at d in
+              apart m x s h other ∙ sym (apart m y s hy other)
+          go Ordering·gt e = rw (entry-add p k m y (updateIn p n x s) hy, entry-add p k m y s hy, ih)
 
   -- an entry changed to itself
   pub update-entry : (f : Forest) → Sorted (fold p f) → updateIn p n (entry p (key p n) f) f ≡ f
@@ -64,6 +71,27 @@ module _ (p : Profile) (n : Name) where
           go Ordering·lt e b = rw (gone e (b .0))
           go Ordering·eq e b = refl
           go Ordering·gt e b = ap (add m y) (ih (b .2))
+
+-- a second entry of one key, however it is spelled, takes the place of the first
+pub update-over : (p : Profile) (n m : Name) (x y : Node) → cmp (key p n) (key p m) ≡ Ordering·eq → Present y → (f : Forest)
+    → updateIn p n x (updateIn p m y f) ≡ updateIn p m x f
+unfolding updateIn
+update-over p n m x y same h =
+    siblings-ind (λ (f : Forest). updateIn p n x (updateIn p m y f) ≡ updateIn p m x f) (updateIn-add p n m x y end h ∙ rw same) more
+  where
+    more : (k : Name) (z : Node) (s : Forest) → Present z → updateIn p n x (updateIn p m y s) ≡ updateIn p m x s
+        → updateIn p n x (updateIn p m y (add k z s)) ≡ updateIn p m x (add k z s)
+    more k z s hz ih = rw (updateIn-add p m k y z s hz, updateIn-add p m k x z s hz) (go (cmp (key p m) (key p k)) refl)
+      where
+        like : (w : Ordering) → cmp (key p m) (key p k) ≡ w → cmp (key p n) (key p k) ≡ w
+        like w e = rw (cmp-eq (key p n) (key p m) same) e
+
+        go : (w : Ordering) → cmp (key p m) (key p k) ≡ w
+            → updateIn p n x (byOrder w (add m y (add k z s)) (add k y s) (add k z (updateIn p m y s)))
+            ≡ byOrder w (add m x (add k z s)) (add k x s) (add k z (updateIn p m x s))
+        go Ordering·lt e = updateIn-add p n m x y (add k z s) h ∙ rw same
+        go Ordering·eq e = updateIn-add p n k x y s h ∙ rw (like Ordering·eq e)
+        go Ordering·gt e = updateIn-add p n k x z (updateIn p m y s) hz ∙ rw (like Ordering·gt e, ih)
 
 -- m is put in behind an entry that comes before it
 behind : (p : Profile) (n m : Name) (x y : Node) → Present x → cmp (key p m) (key p n) ≡ Ordering·gt → (t : Forest)

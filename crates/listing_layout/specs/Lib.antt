@@ -2,7 +2,7 @@
 pub mod Whole
 pub mod Comments
 pub mod Said
-pub mod Blocks
+pub mod Parts
 pub mod Order
 pub mod Relaid
 pub mod Examples

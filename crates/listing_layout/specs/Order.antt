@@ -1,4 +1,6 @@
--- The order in which a folder's entries are listed changes nothing, in a profile: they are put in by key.
+-- The order in which a folder's entries are listed changes nothing, in a profile: they are put in by key. A part may say nothing of
+-- types and leave them to the default, so two parts change places where each gives the same entries from the default that it then
+-- meets, and both orders leave the same default.
 use mathlib.Core.Path.{_≡_}
 use mathlib.Core.List.{List, _++_}
 use mathlib.Core.Bool.{true}
@@ -6,21 +8,30 @@ use Prim.Native.Nat.{ℕ}
 use Rattle.tree.specs.Forest.{Forest, TreePath}
 use Rattle.tree.specs.declared.Profile.{Profile}
 use Rattle.listing.specs.Entries.{Said, Said.none}
-use Rattle.listing.specs.Reading.{State.before, State.inside, Step.goes, Outcome.accepted, inForce, mostRows, reading}
+use Rattle.listing.specs.Reading.{State.before, State.inside, Step.goes, Outcome.accepted, mostRows, reading}
 use Rattle.listing_layout.specs.Whole.{whole, pieces}
-use Rattle.listing_layout.specs.Blocks.{through, Block}
+use Rattle.listing_layout.specs.Parts.{through, Part}
 
--- whole lines a, after which a folder is open, then those of two of its entries, x and y
+-- x, then y, from the default d to e: the one gives the entries j, the other k
+pub record InTurn (p : Profile) (most : ℕ) (d : Said) (x : List ℕ) (j : Forest) (y : List ℕ) (k : Forest) (e : Said) : Type 0 where
+  pub between : Said
+  pub first : Part p most d j between (pieces x)
+  pub second : Part p most between k e (pieces y)
+
+-- whole lines a, after which a folder is open, then two parts of it, x and y
 pub record Neighbours (p : Profile) (most : ℕ) (a x y : List ℕ) : Type 0 where
   pub whole-a : whole a ≡ true
   pub whole-x : whole x ≡ true
   pub whole-y : whole y ≡ true
   pub tree : Forest
   pub path : TreePath
-  pub defaults : List Said
-  pub open-there : through p most (pieces a) (before none) ≡ goes (inside tree path defaults)
-  pub block-x : Block p (inForce defaults) (pieces x)
-  pub block-y : Block p (inForce defaults) (pieces y)
+  pub default : Said
+  pub open-there : through p most (pieces a) (before none) ≡ goes (inside tree path default)
+  pub entries-x : Forest
+  pub entries-y : Forest
+  pub left : Said
+  pub x-first : InTurn p most default x entries-x y entries-y left
+  pub y-first : InTurn p most default y entries-y x entries-x left
 
 -- neighbours swapped, at any place, any number of times
 pub data Reordered (p : Profile) (most : ℕ) : List ℕ → List ℕ → Type 0 where

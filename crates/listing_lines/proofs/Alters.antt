@@ -26,11 +26,11 @@ pub stays : (s : Reader) → Alters (λ t. goes t) s (record { number = 0; state
 stays s = record { does = λ p most w t g q. (refl, q) }
 
 pub resets : (v : ℕ) {s r : Reader} → Sets s v r → Alters (λ t. goes (withDefault (said v) t)) s (record { number = 0; state = r })
-resets v a = record { does = λ p most w t g q. (refl, a .does p most w t g q) }
+resets v a = record { does = λ p most w t g q. (refl, a .does p w t q) }
 
 -- whether a folder is open tells the state
-pub shut-inside : {p : Profile} {w : List ℕ} {s : Reader} {f : Forest} {q : TreePath} {ds : List Said} {A : Type 0} → s .depth ≡ 0 → Open p w s f q ds → A
-shut-inside e h = let d = h .deep in absurd (omega arith)
+pub shut-inside : {p : Profile} {w : List ℕ} {s : Reader} {f : Forest} {q : TreePath} {d : Said} {A : Type 0} → s .depth ≡ 0 → Open p w s f q d → A
+shut-inside e h = let deep = h .deep in absurd (omega arith)
 
 pub close-shut : (ws : Words) (s : Reader) → s .depth ≡ 0 → Alters (closeLine ws) s (record { number = 11; state = s })
 unfolding closeLine
@@ -38,16 +38,16 @@ close-shut ws s e = record { does = λ p most w t g h. go p w t h }
   where
     go : (p : Profile) (w : List ℕ) (t : State) → Reads p w s t → Did p (closeLine ws t) w (record { number = 11; state = s })
     go p w (before d) h = (refl, omega arith)
-    go p w (inside f q ds) h = shut-inside e h
+    go p w (inside f q d) h = shut-inside e h
     go p w (closed f) h = (refl, omega arith)
 
 pub close-folder : (ws : Words) (s : Reader) (b : Bool) (r : Went) → (s .depth ≡ 0 → ⊥) → b ≡ isEmpty ws
-    → ((p : Profile) (most : ℕ) (w : List ℕ) (f : Forest) (q : TreePath) (ds : List Said) → Inside p most f q ds → Open p w s f q ds → Did p (cond b (goes (close f q ds)) (stops 9)) w r)
+    → ((p : Profile) (most : ℕ) (w : List ℕ) (f : Forest) (q : TreePath) (d : Said) → Inside p most f q → Open p w s f q d → Did p (cond b (goes (close f q d)) (stops 9)) w r)
     → Alters (closeLine ws) s r
 unfolding closeLine
 close-folder ws s b r e i k = record { does = λ p most w t g h. go p most w t g h }
   where
     go : (p : Profile) (most : ℕ) (w : List ℕ) (t : State) → GoodState p most t → Reads p w s t → Did p (closeLine ws t) w r
     go p most w (before d) g h = absurd (e (h .shut))
-    go p most w (inside f q ds) g h = rw (← i) (k p most w f q ds g h)
+    go p most w (inside f q d) g h = rw (← i) (k p most w f q d g h)
     go p most w (closed f) g h = absurd (e (h .shut))

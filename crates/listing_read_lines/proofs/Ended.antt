@@ -43,7 +43,7 @@ module _ (s : Reader) where
     where
       go : (p : Profile) (w : List ℕ) (t : State) → Reads p w s t → Answers (Refused 12 0 0) (ended t) × (false ≡ isTaken (ended t))
       go p w (before d) h = (record { number-due = refl; side-due = refl; place-due = refl; accepted = refl }, refl)
-      go p w (inside f q ds) h = let c = h .filled .rows in absurd (omega arith)
+      go p w (inside f q v) h = let c = h .filled .rows in absurd (omega arith)
       go p w (closed f) h = let c = h .filled .rows in absurd (omega arith)
 
   pub ends-rooted : (s .count ≡ 0 → ⊥) → Ends s (Accepted (s .count))
@@ -51,7 +51,7 @@ module _ (s : Reader) where
     where
       go : (p : Profile) (w : List ℕ) (t : State) → Reads p w s t → Answers (Accepted (s .count)) (ended t) × (true ≡ isTaken (ended t))
       go p w (before d) h = absurd (e (h .rows))
-      go p w (inside f q ds) h = (record { number-due = refl; side-due = refl; place-due = h .filled .rows; accepted = refl }, refl)
+      go p w (inside f q v) h = (record { number-due = refl; side-due = refl; place-due = h .filled .rows; accepted = refl }, refl)
       go p w (closed f) h = (record { number-due = refl; side-due = refl; place-due = h .filled .rows; accepted = refl }, refl)
 
 filled-table : (w : List ℕ) (count : ℕ) (f : Forest) → Within NameRule ContentRule 16 f → Filled w count f → w ≡ over (zeroed (length w)) (table f)
@@ -62,5 +62,5 @@ filled-table w count f g h =
 
 pub table-end : (p : Profile) (most : ℕ) (w : List ℕ) (s : Reader) (t : State) → GoodState p most t → Reads p w s t → w ≡ tableAfter (ended t) (length w)
 table-end p most w s (before d) g h = h .empty
-table-end p most w s (inside f q ds) g h = filled-table w (s .count) f (g .fit .good .within) (h .filled)
+table-end p most w s (inside f q v) g h = filled-table w (s .count) f (g .fit .good .within) (h .filled)
 table-end p most w s (closed f) g h = filled-table w (s .count) f (g .good .within) (h .filled)

@@ -36,16 +36,16 @@ use Rattle.listing_reader.proofs.Rows.{last-within}
 pub record Opened (p : Profile) (w : List ℕ) (s : Reader) : Type 0 where
   pub tree : Forest
   pub path : TreePath
-  pub defaults : List Said
-  pub good : Inside p (mostRows (length w)) tree path defaults
-  pub reads : Open p w s tree path defaults
+  pub default : Said
+  pub good : Inside p (mostRows (length w)) tree path
+  pub reads : Open p w s tree path default
 
 pub opened-ready : (p : Profile) (w : List ℕ) (s : Reader) → Ready p w s → 0 < s .depth → Opened p w s
 opened-ready p w s r h = go (r .state) (r .good) (r .reads)
   where
     go : (t : State) → GoodState p (mostRows (length w)) t → Reads p w s t → Opened p w s
     go (before d) g o = absurd (let z = o .shut in omega arith)
-    go (inside f q ds) g o = record { tree = f; path = q; defaults = ds; good = g; reads = o }
+    go (inside f q v) g o = record { tree = f; path = q; default = v; good = g; reads = o }
     go (closed f) g o = absurd (let z = o .shut in omega arith)
 
 -- the places that the code reads
@@ -72,7 +72,7 @@ in-use p w s o = go (atKey p (o .tree) (o .path)) refl (o .good .here)
         let n : s .depth - 1 ≡ length (o .path) = omega arith in
         let c = o .reads .filled .rows in
         let r = o .good .fit .room in
-        let i = within p _ w s (o .tree) (o .path) (o .defaults) (o .good) (o .reads) k e in
+        let i = within p _ w s (o .tree) (o .path) (o .default) (o .good) (o .reads) k e in
         let l = last-within _ k (s .last) (rw e at (o .reads .last)) in
         let b = o .good .deep in
         let a = o .reads .filled .rows in
@@ -80,9 +80,9 @@ in-use p w s o = go (atKey p (o .tree) (o .path)) refl (o .good .here)
           deep = omega arith;
           rows = omega (arith, m .1);
           few = omega (arith, m .0);
-          row = rw (n, here p _ w s (o .tree) (o .path) (o .defaults) (o .good) (o .reads) k e) (omega arith);
+          row = rw (n, here p _ w s (o .tree) (o .path) (o .default) (o .good) (o .reads) k e) (omega arith);
           last = omega arith;
-          places = o .reads .wide .folders;
+          places = o .reads .wide;
         }
 
 pub less-deep : (w : List ℕ) (s : Reader) → InUse w s → (s .depth ≡ 17 → ⊥) → s .depth < 17
@@ -96,15 +96,15 @@ pub row-fits : (n : ℕ) (w : List ℕ) → true ≡ ltb n (mostRows (length w))
 row-fits n w e = let h = ltb-true n (mostRows (length w)) (sym e) in let m = most-rows (length w) in (omega (arith, m .1), omega (arith, m .0))
 
 -- an entry of that name and content, put into the folder last opened
-module _ (p : Profile) (most : ℕ) (n : Name) (x : Node) (f : Forest) (q : TreePath) (ds : List Said) where
-  placed-deep : 16 ≤ length q → placed p most n x f q ds ≡ stops 14
+module _ (p : Profile) (most : ℕ) (n : Name) (x : Node) (f : Forest) (q : TreePath) (d : Said) where
+  placed-deep : 16 ≤ length q → placed p most n x f q d ≡ stops 14
   unfolding placed
-  placed-deep d = rw (le-leb 16 (length q) d)
+  placed-deep h = rw (le-leb 16 (length q) h)
 
   placed-by : (u v : Bool) → length q < 16 → isAbsent (at (folder (fold p f)) (foldPath p q ++ (key p n ∷ []))) ≡ u → ltb (suc (size f)) most ≡ v
-      → placed p most n x f q ds ≡ cond u (cond v (goes (opened n x (kids (putIn p (q ++ (n ∷ [])) x (folder f))) q ds)) (stops 3)) (stops 13)
+      → placed p most n x f q d ≡ cond u (cond v (goes (opened n x (kids (putIn p (q ++ (n ∷ [])) x (folder f))) q d)) (stops 3)) (stops 13)
   unfolding placed
-  placed-by u v d a b = rw (lt-leb 16 (length q) d, path-append p q (n ∷ []), a, b)
+  placed-by u v h a b = rw (lt-leb 16 (length q) h, path-append p q (n ∷ []), a, b)
 
 absent-free : (x : Node) (j i : ℕ) → spotAt x j ≡ Free i → (x ≡ absent) × (j ≡ i)
 absent-free absent j i e = (refl, cc)
@@ -116,14 +116,14 @@ there-taken absent j e = never (cc)
 there-taken (file c) j e = refl
 there-taken (folder k) j e = refl
 
-module _ (p : Profile) (w : List ℕ) (s : Reader) (n : Name) (c : Content) (f : Forest) (q : TreePath) (ds : List Said) (g : Inside p (mostRows (length w)) f q ds) (h : Open p w s f q ds) (after : List ℕ) (r : Went) where
+module _ (p : Profile) (w : List ℕ) (s : Reader) (n : Name) (c : Content) (f : Forest) (q : TreePath) (d : Said) (g : Inside p (mostRows (length w)) f q) (h : Open p w s f q d) (after : List ℕ) (r : Went) where
   abbrev Due : Type 0
-  Due = Did p (placed p (mostRows (length w)) n (nodeOf c) f q ds) after r
+  Due = Did p (placed p (mostRows (length w)) n (nodeOf c) f q d) after r
 
   pub did-deep : s .depth ≡ 17 → r .number ≡ 14 → Due
-  did-deep d e =
+  did-deep z e =
       let u = h .deep in
-      rw (placed-deep p (mostRows (length w)) n (nodeOf c) f q ds (omega arith)) (e, omega arith)
+      rw (placed-deep p (mostRows (length w)) n (nodeOf c) f q d (omega arith)) (e, omega arith)
 
   -- not so deep
   module _ (shallow : s .depth ≡ 17 → ⊥) where
@@ -132,7 +132,7 @@ module _ (p : Profile) (w : List ℕ) (s : Reader) (n : Name) (c : Content) (f :
       where
         go : Dec (length q ≡ 16) → length q < 16
         go (yes e) = absurd (shallow (h .deep ∙ ap suc e))
-        go (no e) = let d = g .deep in omega arith
+        go (no e) = let z = g .deep in omega arith
 
     abbrev F : Node
     F = folder (fold p f)
@@ -148,23 +148,23 @@ module _ (p : Profile) (w : List ℕ) (s : Reader) (n : Name) (c : Content) (f :
       where
         go : (x : Node) → atKey p f q ≡ x → IsFolder x → spot ≡ spotAt (at F keys) (rowIn F keys)
         go absent e u = absurd u
-        go (file d) e u = absurd u
+        go (file z) e u = absurd u
         go (folder k) e u =
-            let i : s .depth - 1 ≡ length q = let d = h .deep in omega arith in
-            rw i (found p (mostRows (length w)) w s f q ds g h k e n)
+            let i : s .depth - 1 ≡ length q = let z = h .deep in omega arith in
+            rw i (found p (mostRows (length w)) w s f q d g h k e n)
 
     pub did-taken : Taken ≡ spot → r .number ≡ 13 → Due
     did-taken t e =
-        rw (placed-by p (mostRows (length w)) n (nodeOf c) f q ds false _ less (there-taken (at F keys) _ (sym (t ∙ spot-is))) refl) (e, omega arith)
+        rw (placed-by p (mostRows (length w)) n (nodeOf c) f q d false _ less (there-taken (at F keys) _ (sym (t ∙ spot-is))) refl) (e, omega arith)
 
     module _ (i : ℕ) (free : Free i ≡ spot) where
       gone : (at F keys ≡ absent) × (rowIn F keys ≡ i)
       gone = absent-free _ _ i (sym (free ∙ spot-is))
 
-      by-room : (v : Bool) → v ≡ ltb (s .count) (mostRows (length w)) → placed p (mostRows (length w)) n (nodeOf c) f q ds
-          ≡ cond v (goes (opened n (nodeOf c) (kids (putIn p (q ++ (n ∷ [])) (nodeOf c) (folder f))) q ds)) (stops 3)
+      by-room : (v : Bool) → v ≡ ltb (s .count) (mostRows (length w)) → placed p (mostRows (length w)) n (nodeOf c) f q d
+          ≡ cond v (goes (opened n (nodeOf c) (kids (putIn p (q ++ (n ∷ [])) (nodeOf c) (folder f))) q d)) (stops 3)
       by-room v e =
-          placed-by p (mostRows (length w)) n (nodeOf c) f q ds true v less (rw (gone .0)) (rw (← h .filled .rows) (sym e))
+          placed-by p (mostRows (length w)) n (nodeOf c) f q d true v less (rw (gone .0)) (rw (← h .filled .rows) (sym e))
 
       pub did-full : false ≡ ltb (s .count) (mostRows (length w)) → r .number ≡ 3 → Due
       did-full v e = rw (by-room false v) (e, omega arith)
@@ -179,17 +179,17 @@ module _ (p : Profile) (w : List ℕ) (s : Reader) (n : Name) (c : Content) (f :
         fits = omega (arith, most-rows (length w) .1)
 
         put-in : IsContent c → Reads p (inserted w (20 * s .count) (20 * i) (fileRow (s .depth) n c)) (entered s i (getD c 0 0))
-            (opened n (nodeOf c) (kids (putIn p (q ++ (n ∷ [])) (nodeOf c) (folder f))) q ds)
+            (opened n (nodeOf c) (kids (putIn p (q ++ (n ∷ [])) (nodeOf c) (folder f))) q d)
         unfolding entered size fold
         put-in (of-folder z) =
             let l = row-long (of-folder z) eight in
             rw (z, ← gone .1)
-            (folder-in p (mostRows (length w)) w s f q ds g h k e n (folder end) (fileRow (s .depth) n (replicate 11 0)) tt refl refl (rw (h .deep) (folder-words (suc (length q)) n))
+            (folder-in p (mostRows (length w)) w s f q d g h k e n (folder end) (fileRow (s .depth) n (replicate 11 0)) tt refl refl (rw (h .deep) (folder-words (suc (length q)) n))
             (rw z at l) (gone .0) fits _ refl refl refl refl refl less)
         put-in (of-file u) =
             let l = row-long (of-file u) eight in
             rw (u .kind, ← gone .1)
-            (file-in p (mostRows (length w)) w s f q ds g h k e n (file c) (s .depth ∷ 1 ∷ (n ++ drop 1 c)) tt refl refl
+            (file-in p (mostRows (length w)) w s f q d g h k e n (file c) (s .depth ∷ 1 ∷ (n ++ drop 1 c)) tt refl refl
             (rw (h .deep) (file-words (suc (length q)) n c ∙ rw (u .kind))) l (gone .0) fits _ refl refl refl refl refl)
 
       pub did-put : IsContent c → length n ≡ 8 → true ≡ ltb (s .count) (mostRows (length w)) → r .number ≡ 0
@@ -197,7 +197,7 @@ module _ (p : Profile) (w : List ℕ) (s : Reader) (n : Name) (c : Content) (f :
       did-put x eight v e a b = rw (by-room true v) (e, rw (a, b) (go (atKey p f q) refl (g .here)))
         where
           go : (y : Node) → atKey p f q ≡ y → IsFolder y → Reads p (inserted w (20 * s .count) (20 * i) (fileRow (s .depth) n c)) (entered s i (getD c 0 0))
-              (opened n (nodeOf c) (kids (putIn p (q ++ (n ∷ [])) (nodeOf c) (folder f))) q ds)
+              (opened n (nodeOf c) (kids (putIn p (q ++ (n ∷ [])) (nodeOf c) (folder f))) q d)
           go absent e u = absurd u
-          go (file d) e u = absurd u
+          go (file z) e u = absurd u
           go (folder k) e u = put-in k e eight (ltb-true _ _ (sym v)) x

@@ -1,12 +1,12 @@
 -- An entry put into the folder last opened: the table that it leaves, and the state that the struct then stands for. Its row
 -- is counted in the tree of keys.
 use mathlib.Core.Path.{_≡_, sym, ap, _∙_}
-use mathlib.Core.List.{List, [], _∷_, _++_, map, map-append}
+use mathlib.Core.List.{List, [], _∷_, _++_}
 use native.Mathlib.Decide.{ℕ-discrete}
 use native.Mathlib.Omega.{arith}
 use lib.ListN.{length, take, drop, getD, set, length-set, length-append, length-map}
-use lib.Seq.{take-length, take-append-le, drop-drop, getD-set-same, getD-set-other, take-suc-set}
-use Prim.Native.Nat.{ℕ, suc, _+_, _*_, _-_, _≤_, _<_}
+use lib.Seq.{take-length, take-append-le, drop-drop, getD-set-same, getD-set-other}
+use Prim.Native.Nat.{ℕ, suc, _+_, _*_, _≤_, _<_}
 use Rattle.tree.specs.Name.{Name}
 use Rattle.tree.specs.Forest.{TreePath, Forest, Node, Node.absent, Node.folder, Present, at, kids, size}
 use Rattle.tree.specs.Put.{put, Reaches}
@@ -19,7 +19,7 @@ use Rattle.table_stands.specs.Stands.{Holds}
 use Rattle.table_stands.specs.Around.{rowIn}
 use Rattle.table_slot.specs.Insert.{Last.none as none-yet, inserted, spotOf}
 use Rattle.listing.specs.Entries.{Said}
-use Rattle.listing.specs.Reading.{atKey, inForce}
+use Rattle.listing.specs.Reading.{atKey}
 use Rattle.listing.specs.Accepted.{Inside}
 use Rattle.tree.proofs.Forest.{sorted-at}
 use Rattle.tree.proofs.Put.{put-folder}
@@ -33,12 +33,12 @@ use Rattle.table_stands.proofs.Subtree.{holds-table}
 use Rattle.table_slot.proofs.Grown.{inserted-rest, length-inserted, last-put, put-row, spot-entry}
 use Rattle.table_slot.proofs.Spots.{spotAt}
 use Rattle.listing_reader.specs.declared.Reader.{Reader}
-use Rattle.listing_reader.specs.State.{said, zeroed, Filled, Open}
-use Rattle.listing_reader.proofs.State.{all-keys, in-folder}
+use Rattle.listing_reader.specs.State.{zeroed, Filled, Open}
+use Rattle.listing_reader.proofs.State.{all-keys}
 use Rattle.listing_reader.proofs.Rows.{at-parent, before-size, row-stays, rows-within}
 
 -- the folder last opened, k among keys, in a table w of which the first rows are in use
-module _ (p : Profile) (most : ℕ) (w : List ℕ) (s : Reader) (f : Forest) (q : TreePath) (ds : List Said) (g : Inside p most f q ds) (h : Open p w s f q ds) (k : Forest) (e : atKey p f q ≡ folder k) where
+module _ (p : Profile) (most : ℕ) (w : List ℕ) (s : Reader) (f : Forest) (q : TreePath) (v : Said) (g : Inside p most f q) (h : Open p w s f q v) (k : Forest) (e : atKey p f q ≡ folder k) where
   abbrev Q : TreePath
   Q = foldPath p q
 
@@ -116,23 +116,17 @@ module _ (p : Profile) (most : ℕ) (w : List ℕ) (s : Reader) (f : Forest) (q 
     own : rowIn (folder (fold p grown)) Q ≡ rowIn F Q
     own = rw (all-keys p q) at (above (length q) (omega arith))
 
-    pub file-in : (r : Reader) → r .defaults ≡ s .defaults → r .folders ≡ s .folders → r .depth ≡ s .depth → r .last ≡ rowIn F keys
-        → r .count ≡ s .count + 1 → Open p after r grown q ds
+    pub file-in : (r : Reader) → r .default ≡ s .default → r .folders ≡ s .folders → r .depth ≡ s .depth → r .last ≡ rowIn F keys
+        → r .count ≡ s .count + 1 → Open p after r grown q v
     file-in r a b c d u = record {
-      wide = record { defaults = rw a (h .wide .defaults); folders = rw b (h .wide .folders) };
+      wide = rw b (h .wide);
       filled = filled (r .count) u;
       deep = c ∙ h .deep;
-      defaults = rw a (h .defaults);
+      default = rw a (h .default);
       folders = λ j l. rw (b, above j l) (h .folders j l);
       last = rw (d, own, is-folder, at-parent Q (key p n) x F k (g .fit .good .sorted) e, row-entry (key p n) k Q F e)
           (last-put (rowIn F Q) (key p n) x k there (rw e at (sorted-at Q F (g .fit .good .sorted))));
     }
-
-    more-defaults : (v : ℕ) → said v ≡ inForce ds → length q < 16
-        → ds ++ (inForce ds ∷ []) ≡ map said (take (suc (suc (length q))) (set (s .defaults) (suc (length q)) v))
-    more-defaults v i less =
-        let l = h .wide .defaults in
-        rw (take-suc-set (s .defaults) (suc (length q)) v (omega arith), map-append said (take (suc (length q)) (s .defaults)) (v ∷ []), ← h .defaults, i)
 
     more-folders : length q < 16 → (j : ℕ) → j ≤ suc (length q)
         → getD (set (s .folders) (suc (length q)) (rowIn F keys)) j 0 ≡ rowIn F (take j keys)
@@ -140,23 +134,22 @@ module _ (p : Profile) (most : ℕ) (w : List ℕ) (s : Reader) (f : Forest) (q 
       where
         go : Dec (j ≡ suc (length q)) → getD (set (s .folders) (suc (length q)) (rowIn F keys)) j 0 ≡ rowIn F (take j keys)
         go (yes u) =
-            let y = h .wide .folders in
+            let y = h .wide in
             let z : length keys ≡ suc (length q) = omega (arith, length-append Q (key p n ∷ []), length-map q (key p)) in
             rw (u, getD-set-same (s .folders) (suc (length q)) (rowIn F keys) 0 (omega arith), ← z, take-length keys)
         go (no u) =
             rw (getD-set-other (s .folders) (suc (length q)) j (rowIn F keys) 0 u, part j (omega arith)) (h .folders j (omega arith))
 
-    pub folder-in : (r : Reader) → r .defaults ≡ set (s .defaults) (s .depth) (getD (s .defaults) (s .depth - 1) 0)
-        → r .folders ≡ set (s .folders) (s .depth) (rowIn F keys) → r .depth ≡ s .depth + 1 → r .last ≡ rowIn F keys
-        → r .count ≡ s .count + 1 → length q < 16 → Open p after r grown path (ds ++ (inForce ds ∷ []))
+    pub folder-in : (r : Reader) → r .default ≡ s .default → r .folders ≡ set (s .folders) (s .depth) (rowIn F keys) → r .depth ≡ s .depth + 1 → r .last ≡ rowIn F keys
+        → r .count ≡ s .count + 1 → length q < 16 → Open p after r grown path v
     folder-in r a b c d u less =
         let l : length path ≡ suc (length q) = omega (arith, length-append q (n ∷ [])) in
-        let v = h .deep in
+        let deep = h .deep in
         record {
-          wide = record { defaults = rw a (length-set (s .defaults) _ _ ∙ h .wide .defaults); folders = rw b (length-set (s .folders) _ _ ∙ h .wide .folders) };
+          wide = rw b (length-set (s .folders) _ _ ∙ h .wide);
           filled = filled (r .count) u;
           deep = omega arith;
-          defaults = rw (l, a, v) (more-defaults _ (rw v at (sym (in-folder p w s f q ds (g .deep) h))) less);
-          folders = λ j i. rw (b, v, are-keys, stays j) (more-folders less j (omega arith));
+          default = rw a (h .default);
+          folders = λ j i. rw (b, deep, are-keys, stays j) (more-folders less j (omega arith));
           last = rw (d, are-keys, at-path) none-yet;
         }

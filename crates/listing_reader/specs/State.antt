@@ -1,7 +1,7 @@
 -- How the reader's struct and the lent table stand for a state of reading in a profile: the table's words are the tree's as it
 -- is spelled, and the struct's rows are found by key.
 use mathlib.Core.Path.{_≡_}
-use mathlib.Core.List.{List, map}
+use mathlib.Core.List.{List}
 use mathlib.Core.Bool.{cond}
 use lib.Dec.{eqb}
 use lib.ListN.{length, take, drop, getD, replicate}
@@ -25,11 +25,6 @@ zeroed n = replicate n 0
 unfoldable pub said : ℕ → Said
 said n = cond (eqb n 1) isDir (cond (eqb n 2) isFile none)
 
--- a place for each depth
-pub record Wide (s : Reader) : Type 0 where
-  pub defaults : length (s .defaults) ≡ 17
-  pub folders : length (s .folders) ≡ 17
-
 -- the first rows of w are the tree's, and the rest is zero
 pub record Filled (w : List ℕ) (count : ℕ) (f : Forest) : Type 0 where
   pub rows : count ≡ suc (size f)
@@ -38,31 +33,30 @@ pub record Filled (w : List ℕ) (count : ℕ) (f : Forest) : Type 0 where
 
 -- before the root
 pub record Waits (w : List ℕ) (s : Reader) (d : Said) : Type 0 where
-  pub wide : Wide s
+  pub wide : length (s .folders) ≡ 17
   pub rows : s .count ≡ 0
   pub shut : s .depth ≡ 0
-  pub default : d ≡ said (getD (s .defaults) 0 0)
+  pub default : d ≡ said (s .default)
   pub empty : w ≡ zeroed (length w)
 
--- inside it: the depth of an entry listed now is the number of open folders, and each has its default and its row
-pub record Open (p : Profile) (w : List ℕ) (s : Reader) (f : Forest) (q : TreePath) (ds : List Said) : Type 0 where
-  pub wide : Wide s
+-- inside it: the depth of an entry listed now is the number of open folders, and each has its row
+pub record Open (p : Profile) (w : List ℕ) (s : Reader) (f : Forest) (q : TreePath) (d : Said) : Type 0 where
+  pub wide : length (s .folders) ≡ 17
   pub filled : Filled w (s .count) f
   pub deep : s .depth ≡ suc (length q)
-  pub defaults : ds ≡ map said (take (suc (length q)) (s .defaults))
+  pub default : d ≡ said (s .default)
   pub folders : (k : ℕ) → k ≤ length q → getD (s .folders) k 0 ≡ rowIn (folder (fold p f)) (take k (foldPath p q))
   pub last : Last (rowIn (folder (fold p f)) (foldPath p q)) (kids (atKey p f q)) (s .last)
 
 -- after it has closed
 pub record Over (w : List ℕ) (s : Reader) (f : Forest) : Type 0 where
-  pub wide : Wide s
   pub filled : Filled w (s .count) f
   pub shut : s .depth ≡ 0
 
 -- struct and table stand for a state
 abbrev pub Reads : Profile → List ℕ → Reader → State → Type 0
 Reads p w s (before d) = Waits w s d
-Reads p w s (inside f q ds) = Open p w s f q ds
+Reads p w s (inside f q d) = Open p w s f q d
 Reads p w s (closed f) = Over w s f
 
 -- for a state that lines lead to

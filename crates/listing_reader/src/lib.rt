@@ -1,12 +1,12 @@
 // The reader's state: a default set, a folder opened or closed, the row last put in.
 ghost use mathlib.Core.Path.{_≡_};
-ghost use Prim.Native.Nat.{_+_, _-_, _≤_, _<_};
-ghost use Rattle.listing_reader.specs.Does.{Fresh, InForce, Sets, Leaves, Roots, entered};
+ghost use Prim.Native.Nat.{_+_, _≤_, _<_};
+ghost use Rattle.listing_reader.specs.Does.{Fresh, Sets, Leaves, Roots, entered};
 
-// For each open folder its default type (0 none, 1 dir, 2 file) and its row; the depth that an entry listed now has, 0 where
-// no folder is open; the row last put into the folder last opened, or that folder's own; and the rows so far.
+// The default type (0 none, 1 dir, 2 file); the row of each open folder; the depth that an entry listed now has, 0 where no
+// folder is open; the row last put into the folder last opened, or that folder's own; and the rows so far.
 pub struct Reader {
-    pub defaults: [u8; 17],
+    pub default: u8,
     pub folders: [usize; 17],
     pub depth: usize,
     pub last: usize,
@@ -24,7 +24,7 @@ pub fn fresh() -> Reader
     ensures { λ r. ⌜ Fresh r ⌝ }
 {
     Reader {
-        defaults: [0; 17],
+        default: 0,
         folders: [0; 17],
         depth: 0,
         last: 0,
@@ -32,35 +32,12 @@ pub fn fresh() -> Reader
     }
 }
 
-// The place of the default in force: before the root is listed it is the root's.
-fn innermost(s: Reader) -> usize
-    requires { ⌜ s .depth ≤ 17 ⌝ }
-    ensures { λ r. ⌜ (r ≡ s .depth - 1) × (r < 17) ⌝ }
-{
-    if s.depth == 0 {
-        return 0;
-    }
-    s.depth - 1
-}
-
-// The default in force. It is looked up in the defaults alone, since all that is looked into by an index is copied first.
-pub fn default_of(s: Reader) -> u8
-    requires { ⌜ s .depth ≤ 17 ⌝ }
-    ensures { λ r. ⌜ InForce s r ⌝ }
-{
-    let k = innermost(s);
-    let defaults = s.defaults;
-    defaults[k]
-}
-
-// Another default; after the root has closed none is in force, so none changes.
+// Another default, which holds until the next.
 pub fn with_default(s: Reader, v: u8) -> Reader
-    requires { ⌜ s .depth ≤ 17 ⌝ }
     ensures { λ r. ⌜ Sets s v r ⌝ }
 {
-    let k = innermost(s);
     let mut t = s;
-    t.defaults[k] = v;
+    t.default = v;
     t
 }
 
@@ -88,7 +65,7 @@ pub fn enter_root(s: Reader) -> Reader
     t
 }
 
-// The state after a row was put in as row i: a folder is opened, with the default in force.
+// The state after a row was put in as row i: a folder is opened.
 pub fn enter(s: Reader, i: usize, kind: u32) -> Reader
     requires { ⌜ (s .depth < 17) × (s .count < 4096) ⌝ }
     ensures { λ r. ⌜ r ≡ entered s i kind ⌝ }
@@ -97,9 +74,7 @@ pub fn enter(s: Reader, i: usize, kind: u32) -> Reader
     t.last = i;
     t.count = s.count + 1;
     if kind == 0 {
-        let k = innermost(s);
         let d = s.depth;
-        t.defaults[d] = s.defaults[k];
         t.folders[d] = i;
         t.depth = d + 1;
     }

@@ -9,7 +9,6 @@ ghost use Rattle.listing_lines.specs.Takes.{Alters};
 
 // /set by its type.
 fn set_type(t: listing_keywords::Said, s: listing_reader::Reader) -> listing_reader::Went
-    requires { ⌜ s .depth ≤ 17 ⌝ }
     ensures { λ r. ⌜ Alters (setTo (saidOf t)) s r ⌝ }
 {
     match t {
@@ -38,7 +37,7 @@ fn set_type(t: listing_keywords::Said, s: listing_reader::Reader) -> listing_rea
 
 // /set, from behind that word on: size and sha256digest are refused.
 fn set_line(line: &[u8], from: usize, s: listing_reader::Reader) -> listing_reader::Went
-    requires { ⌜ (from ≤ length (now line)) × (s .depth ≤ 17) ⌝ }
+    requires { ⌜ from ≤ length (now line) ⌝ }
     ensures { λ r. ⌜ Alters (setLine (words (drop from (now (line .entry))))) s r ⌝ }
 {
     if listing_keywords::lacks(line, from, b"size") {
@@ -57,7 +56,6 @@ fn set_line(line: &[u8], from: usize, s: listing_reader::Reader) -> listing_read
 
 // No default.
 fn clear(s: listing_reader::Reader) -> listing_reader::Went
-    requires { ⌜ s .depth ≤ 17 ⌝ }
     ensures { λ r. ⌜ Alters (λ t. goes (withDefault none t)) s r ⌝ }
 {
     let state = listing_reader::with_default(s, 0);
@@ -66,7 +64,7 @@ fn clear(s: listing_reader::Reader) -> listing_reader::Went
 
 // /unset, from behind that word on.
 fn unset_line(line: &[u8], from: usize, s: listing_reader::Reader) -> listing_reader::Went
-    requires { ⌜ (from ≤ length (now line)) × (s .depth ≤ 17) ⌝ }
+    requires { ⌜ from ≤ length (now line) ⌝ }
     ensures { λ r. ⌜ Alters (unsetLine (words (drop from (now (line .entry))))) s r ⌝ }
 {
     if listing_keywords::lacks(line, from, b"type") {
@@ -88,7 +86,7 @@ pub fn slash_line(
     e: usize,
     s: listing_reader::Reader,
 ) -> listing_reader::Went
-    requires { ⌜ (a ≤ e) × (e ≤ length (now line)) × (s .depth ≤ 17) ⌝ }
+    requires { ⌜ (a ≤ e) × (e ≤ length (now line)) ⌝ }
     ensures { λ r. ⌜ Alters (slashLine (take (e - a) (drop a (now (line .entry)))) (words (drop e (now (line .entry))))) s r ⌝ }
 {
     if listing_words::same_bytes(&line[a..e], b"/set") {

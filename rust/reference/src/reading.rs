@@ -17,8 +17,8 @@ pub fn read(profile: Profile, text: &[u8], room_words: usize) -> Answer<Vec<u32>
         profile,
         room: MOST_ROWS.min(room_words / ROW),
         tree: None,
-        first_default: None,
-        defaults: Vec::new(),
+        default: None,
+        open: 0,
         path: Path::new(),
     };
     for line in lines(text) {
@@ -82,9 +82,10 @@ struct Reader {
     room: usize,
     /// The tree, once its root was listed.
     tree: Option<Node>,
-    /// The default before the root, then that of each open folder.
-    first_default: Option<Type>,
-    defaults: Vec<Option<Type>>,
+    /// The default, from the line that set it on.
+    default: Option<Type>,
+    /// How many folders are open, the root among them.
+    open: usize,
     /// The path of the folder last opened; only of use while a folder is open.
     path: Path,
 }
@@ -107,11 +108,6 @@ impl Reader {
         }
     }
 
-    /// The default of the folder last opened, or the one before the root.
-    fn default_here(&mut self) -> &mut Option<Type> {
-        self.defaults.last_mut().unwrap_or(&mut self.first_default)
-    }
-
     fn slash(&mut self, first: &[u8], rest: &[&[u8]]) -> Result<(), u32> {
         match first {
             b"/set" => {
@@ -119,13 +115,13 @@ impl Reader {
                     return Err(9);
                 }
                 if let Some(value) = single(rest, b"type")? {
-                    *self.default_here() = Some(type_of(value).ok_or(10u32)?);
+                    self.default = Some(type_of(value).ok_or(10u32)?);
                 }
                 Ok(())
             }
             b"/unset" => {
                 if has(rest, b"type") || has(rest, b"all") {
-                    *self.default_here() = None;
+                    self.default = None;
                 }
                 Ok(())
             }
@@ -144,24 +140,24 @@ impl Reader {
             return Err(3);
         }
         self.tree = Some(Node::default());
-        self.defaults.push(self.first_default);
+        self.open = 1;
         Ok(())
     }
 
     fn close(&mut self, rest: &[&[u8]]) -> Result<(), u32> {
-        if self.defaults.is_empty() {
+        if self.open == 0 {
             return Err(11);
         }
         if !rest.is_empty() {
             return Err(9);
         }
-        self.defaults.pop();
+        self.open -= 1;
         self.path.pop();
         Ok(())
     }
 
     fn entry(&mut self, first: &[u8], rest: &[&[u8]]) -> Result<(), u32> {
-        if self.defaults.is_empty() {
+        if self.open == 0 {
             return Err(11);
         }
         let name = name_of(first).filter(|name| good_name(name)).ok_or(8u32)?;
@@ -184,18 +180,17 @@ impl Reader {
         let opens = node.is_folder();
         tree.put(&path, Some(node));
         if opens {
-            let default = *self.default_here();
-            self.defaults.push(default);
+            self.open += 1;
             self.path = path;
         }
         Ok(())
     }
 
     /// The type an entry's words give, or else the default.
-    fn type_here(&mut self, rest: &[&[u8]]) -> Result<Type, u32> {
+    fn type_here(&self, rest: &[&[u8]]) -> Result<Type, u32> {
         match single(rest, b"type")? {
             Some(value) => type_of(value).ok_or(10),
-            None => self.default_here().ok_or(10),
+            None => self.default.ok_or(10),
         }
     }
 }

@@ -77,6 +77,31 @@ fn bytes_and_joined_lines() {
     assert_eq!(said_bytes(b". type=dir\n\0\n"), (7, 2));
 }
 
+/// A default outlives the folder it was set in, is changed in one, is cleared in one.
+#[test]
+fn a_default_holds_until_it_is_changed() {
+    all_say(&[
+        (
+            ". type=dir\na type=dir\n/set type=dir\n..\nb\n..\nc\n",
+            (0, 4),
+        ),
+        ("/set type=dir\n.\na\nb\n..\n..\nc\n", (0, 4)),
+        (". type=dir\n/set type=dir\na\nb\nc\n", (0, 4)),
+        ("/set type=dir\n.\na\n/set type=file\n..\nb\n", (9, 6)),
+        (
+            "/set type=file\n. type=dir\na type=dir\nb type=dir\n/set type=dir\n..\n..\nc\n",
+            (0, 4),
+        ),
+        ("/set type=dir\n.\na\n/unset type\n..\nb\n", (10, 6)),
+        ("/set type=dir\n.\na\nb\n/unset all\n..\n..\nc\n", (10, 8)),
+        ("/set type=dir\n.\n/unset type\na type=dir\nb\n", (10, 5)),
+        (
+            "/set type=dir\n.\na\n/unset all\n..\n/set type=dir\nb\n",
+            (0, 3),
+        ),
+    ]);
+}
+
 #[test]
 fn slash_lines_and_defaults() {
     all_say(&[
@@ -84,8 +109,6 @@ fn slash_lines_and_defaults() {
         ("/set type=file\n.\n", (10, 2)),
         ("/set type=file\n. type=dir\na size=1\n", (9, 3)),
         ("/set type=dir\n.\n/set type=file\na type=dir\nb\n", (9, 5)),
-        ("/set type=dir\n.\na\n/set type=file\n..\nb\n", (0, 3)),
-        ("/set type=dir\n.\na\n/unset type\n..\nb\n", (0, 3)),
         ("/set type=dir\n.\na\n/unset all\nb\n", (10, 5)),
         (". type=dir\na type=dir\nb\n", (10, 3)),
         (
@@ -250,13 +273,9 @@ fn limits_of_rows_depth_and_bytes() {
     assert_eq!(said(&deep(16)), (0, 17));
     assert_eq!(said(&deep(17)), (14, 19));
     assert_eq!(said(&format!("{}a @\n", deep(16))), (14, 19));
-    assert_eq!(
-        said(&format!(
-            "{}/set type=file\n..\nb type=dir\n..\na\n",
-            deep(16)
-        )),
-        (13, 23)
-    );
+    let above = format!("{}/set type=file\n..\nb type=dir\n..\na", deep(16));
+    assert_eq!(said(&format!("{above} type=dir\n")), (13, 23));
+    assert_eq!(said(&format!("{above}\n")), (9, 23));
     assert_eq!(said(&format!("{}a type=x\n", deep(16))), (10, 19));
 }
 

@@ -14,7 +14,7 @@ known c = in-use (c .args .profile) (c .args .t .now) (c .args .t3) (opened-read
 returns : tie.Need-returns
 returns c =
     let a = c .before .before .args in
-    record { does = λ f q ds g h. did-deep (a .profile) (a .t .now) (a .t3) (a .name) (a .t5) f q ds g h (a .t .now) _ (c .if1 .taken) (omega arith) }
+    record { does = λ f q v g h. did-deep (a .profile) (a .t .now) (a .t3) (a .name) (a .t5) f q v g h (a .t .now) _ (c .if1 .taken) (omega arith) }
 
 sub-k : tie.Need-sub-k
 sub-k c = let p = c .before .before .pre .1 in omega arith
@@ -61,8 +61,8 @@ returns-2 : tie.Need-returns-2
 returns-2 c =
     let s = c .before .before .before .before .before .before .before .before .before .before .before .before .before .before .before .before in
     record {
-      does = λ f q ds g h.
-          did-put (s .args .profile) (s .args .t .now) (s .args .t3) (s .args .name) (s .args .t5) f q ds g h (c .before .before .before .insert .last .0) _ (c .before .before .before .before .before .before .before .before .before .before .before .before .before .before .if1 .left) _ (sym (c .before .before .before .before .before .before .before .before .before .i .given .1) ∙ c .before .before .before .before .before .before .before .before .before .before .before .find-spot .ensures .answer)
+      does = λ f q v g h.
+          did-put (s .args .profile) (s .args .t .now) (s .args .t3) (s .args .name) (s .args .t5) f q v g h (c .before .before .before .insert .last .0) _ (c .before .before .before .before .before .before .before .before .before .before .before .before .before .before .if1 .left) _ (sym (c .before .before .before .before .before .before .before .before .before .i .given .1) ∙ c .before .before .before .before .before .before .before .before .before .before .before .find-spot .ensures .answer)
           (s .pre .2) (search needs) (sym (c .before .before .before .before .before .before .if2 .taken) ∙ c .before .before .before .before .before .before .before .has-room .ensures) refl (c .enter .ensures)
           (c .before .before .before .insert .ensures ∙ rw (c .before .before .before .before .row-of .ensures));
     }
@@ -71,16 +71,16 @@ returns-3 : tie.Need-returns-3
 returns-3 c =
     let a = c .before .before .before .before .before .before .before .args in
     record {
-      does = λ f q ds g h.
-          did-taken (a .profile) (a .t .now) (a .t3) (a .name) (a .t5) f q ds g h (a .t .now) _ (c .before .before .before .before .before .if1 .left) (sym (c .enum-told .given .1) ∙ c .before .before .find-spot .ensures .answer) (omega arith);
+      does = λ f q v g h.
+          did-taken (a .profile) (a .t .now) (a .t3) (a .name) (a .t5) f q v g h (a .t .now) _ (c .before .before .before .before .before .if1 .left) (sym (c .enum-told .given .1) ∙ c .before .before .find-spot .ensures .answer) (omega arith);
     }
 
 returns-4 : tie.Need-returns-4
 returns-4 c =
     let a = c .before .before .before .before .before .before .before .before .before .before .args in
     record {
-      does = λ f q ds g h.
-          did-full (a .profile) (a .t .now) (a .t3) (a .name) (a .t5) f q ds g h (a .t .now) _ (c .before .before .before .before .before .before .before .before .if1 .left) _ (sym (c .before .before .before .i .given .1) ∙ c .before .before .before .before .before .find-spot .ensures .answer)
+      does = λ f q v g h.
+          did-full (a .profile) (a .t .now) (a .t3) (a .name) (a .t5) f q v g h (a .t .now) _ (c .before .before .before .before .before .before .before .before .if1 .left) _ (sym (c .before .before .before .i .given .1) ∙ c .before .before .before .before .before .find-spot .ensures .answer)
           (sym (c .if2 .left) ∙ c .before .has-room .ensures) (omega arith);
     }
 

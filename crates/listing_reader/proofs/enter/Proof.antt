@@ -7,7 +7,7 @@ use Rattle.listing_reader.proofs.enter.Tie as tie
 
 returns : tie.Need-returns
 unfolding entered
-returns c = rw (c .before .before .if1 .taken, c .before .innermost .ensures .0)
+returns c = rw (c .if1 .taken)
 
 returns-2 : tie.Need-returns-2
 unfolding entered
@@ -17,9 +17,6 @@ pub enter-spec : {M : Type 1} → statement M
 enter-spec =
     tie.close
     (tie.spec
-    (λ c. search needs)
-    (λ c κs. search needs)
-    (λ c. search needs)
     (λ c. search needs)
     (λ c. search needs)
     (λ c. search needs)

@@ -3,7 +3,6 @@ use mathlib.Core.Path.{refl}
 use Rattle.listing_reader.proofs.State.{fresh-reads}
 use Rattle.listing_reader.proofs.fresh.Statement.{statement}
 use Rattle.listing_reader.proofs.fresh.Tie as tie
-use Rattle.listing_reader.proofs.fresh.Reads as reads
 
 returns : tie.Need-returns
 returns c = record { does = λ p n. fresh-reads p n _ refl refl refl refl }

@@ -6,7 +6,7 @@ use Rattle.listing_reader.proofs.leave.Statement.{statement}
 use Rattle.listing_reader.proofs.leave.Tie as tie
 
 returns : tie.Need-returns
-returns c = record { does = λ p most w f q ds g h. leaves p most w _ _ f q ds refl refl refl refl refl g h }
+returns c = record { does = λ p most w f q d g h. leaves p most w _ _ f q d refl refl refl refl refl g h }
 
 pub leave-spec : {M : Type 1} → statement M
 leave-spec = tie.close (tie.spec (λ c. search needs) (λ c. search needs) (λ c. search needs) returns)

@@ -9,7 +9,7 @@ use Rattle.listing_take_line.proofs.word_line.Tie as tie
 
 slash-line-requires : tie.Need-slash-line-requires
 slash-line-requires c κs =
-    let p = c .before .before .before .before .pre in (omega arith, p .1, ready-deep _ _ _ (p .2))
+    let p = c .before .before .before .before .pre in (omega arith, p .1)
 
 returns : tie.Need-returns
 returns c =
@@ -30,8 +30,7 @@ returns-2 c =
     (takes-alters (a .t .now) (c .close-line .ensures))
 
 root-line-requires : tie.Need-root-line-requires
-root-line-requires c κs =
-    let p = c .before .before .before .before .before .before .before .before .before .before .before .before .pre in (p .1, ready-deep _ _ _ (p .2))
+root-line-requires c κs = c .before .before .before .before .before .before .before .before .before .before .before .before .pre .1
 
 returns-3 : tie.Need-returns-3
 returns-3 c =

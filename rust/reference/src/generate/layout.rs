@@ -30,7 +30,7 @@ pub struct Before {
     pub root: bool,
     /// How many folders are open: the depth of an entry that would come here.
     pub open: usize,
-    /// The default in force: true for dir, false for file.
+    /// The default: true for dir, false for file.
     pub default: Option<bool>,
     /// The names already listed in the folder last opened.
     pub names: Path,
@@ -88,7 +88,7 @@ pub fn layout(rng: &mut Random, tree: &Node) -> Layout {
         rng,
         calm,
         lines: Vec::new(),
-        first_default: None,
+        default: None,
         open: Vec::new(),
         root: false,
     };
@@ -96,7 +96,7 @@ pub fn layout(rng: &mut Random, tree: &Node) -> Layout {
     let words = scribe.keywords(tree);
     scribe.line(What::Root, b".", words);
     scribe.root = true;
-    scribe.open.push((scribe.first_default, Vec::new()));
+    scribe.open.push(Path::new());
     scribe.folder(tree, true);
     scribe.noise();
     let end = scribe.now();
@@ -109,29 +109,19 @@ struct Scribe<'r> {
     /// Oddities come once in so many times.
     calm: usize,
     lines: Vec<Line>,
-    first_default: Option<bool>,
-    /// The default and the listed names of each open folder.
-    open: Vec<(Option<bool>, Path)>,
+    default: Option<bool>,
+    /// The listed names of each open folder.
+    open: Vec<Path>,
     root: bool,
 }
 
 impl Scribe<'_> {
-    fn default_here(&mut self) -> &mut Option<bool> {
-        match self.open.last_mut() {
-            Some((default, _)) => default,
-            None => &mut self.first_default,
-        }
-    }
-
-    fn now(&mut self) -> Before {
+    fn now(&self) -> Before {
         Before {
             root: self.root,
             open: self.open.len(),
-            default: *self.default_here(),
-            names: self
-                .open
-                .last()
-                .map_or(Vec::new(), |folder| folder.1.clone()),
+            default: self.default,
+            names: self.open.last().cloned().unwrap_or_default(),
         }
     }
 
@@ -174,7 +164,7 @@ impl Scribe<'_> {
     /// A /set or /unset line that changes the default, or does not.
     fn slash(&mut self) {
         let mut words = extra(self.rng);
-        let mut default = *self.default_here();
+        let mut default = self.default;
         let mut first: &[u8] = b"/set";
         match self.rng.below(6) {
             0 => {}
@@ -196,16 +186,13 @@ impl Scribe<'_> {
         }
         self.rng.shuffle(&mut words);
         self.line(What::Slash, first, words);
-        // After the root has closed these lines change nothing.
-        if !self.root || !self.open.is_empty() {
-            *self.default_here() = default;
-        }
+        self.default = default;
     }
 
     /// The words after an entry's name.
     fn keywords(&mut self, node: &Node) -> Vec<Vec<u8>> {
         let mut words = Vec::new();
-        if *self.default_here() != Some(node.is_folder()) || self.rng.one_in(2) {
+        if self.default != Some(node.is_folder()) || self.rng.one_in(2) {
             words.push(type_word(node.is_folder()));
         }
         match node {
@@ -242,11 +229,10 @@ impl Scribe<'_> {
             let words = self.keywords(node);
             let first = name_word(self.rng, self.calm, name.spelled());
             self.line(What::Entry, &first, words);
-            let (default, names) = self.open.last_mut().expect("a folder is open");
+            let names = self.open.last_mut().expect("a folder is open");
             names.push(name.clone());
-            let default = *default;
             if node.is_folder() {
-                self.open.push((default, Vec::new()));
+                self.open.push(Path::new());
                 self.folder(node, last && i + 1 == count);
             }
         }
