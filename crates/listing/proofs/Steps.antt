@@ -137,7 +137,7 @@ module _ (p : Profile) (most n : ℕ) (r : List ℕ) (m : Name) (rule : NameRule
   file-line c q = let k = content-back c q in entry-line (file c) (fileWords c) (file-entry v c k) (solid-file c k)
 
 -- .. undoes what opening did
-front-last : (q : TreePath) (m : Name) → front (q ++ (m ∷ [])) ≡ q
+pub front-last : (q : TreePath) (m : Name) → front (q ++ (m ∷ [])) ≡ q
 front-last q m = take-at q (m ∷ []) (length (q ++ (m ∷ [])) - 1) (omega (arith, length-append q (m ∷ [])))
 
 pub close-last : (f : Forest) (q : TreePath) (m : Name) (v : Said) → close f (q ++ (m ∷ [])) v ≡ inside f q v

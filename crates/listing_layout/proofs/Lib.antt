@@ -14,3 +14,4 @@ pub mod Parts
 pub mod Order
 pub mod Relaid
 pub mod Examples
+pub mod Stretches

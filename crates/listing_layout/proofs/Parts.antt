@@ -27,7 +27,7 @@ use Rattle.listing_layout.proofs.Runs.{both}
 use Rattle.listing_layout.proofs.Siblings.{entry-same, sorted-updateIn}
 use Rattle.listing_layout.proofs.Merge.{Apart, entry-merge, merge, or-there, size-merge, sorted-merge}
 use Rattle.listing_layout.proofs.Fill.{fill, Has, has-sorted, has-below, fill-below, fill-fill, fill-has, fill-keeps, fill-same, reach-append, size-fill}
-use Rattle.listing_layout.proofs.Place.{Place, among, apart-among, closes, fill-among, free-among, has-among, inside-has, new-among, new-keeps, opens, placed-back, placed-goes, size-placed}
+use Rattle.listing_layout.proofs.Place.{Place, among, apart-among, closes, fill-among, free-among, has-among, inside-has, new-among, new-keeps, opens, pathAfter, placed-back, placed-goes, shut, Shut, Shut.folder-shut, Shut.root-shut, size-placed}
 
 -- l has all that k has
 pub record Grows (p : Profile) (k l : Forest) : Type 0 where
@@ -58,13 +58,13 @@ abbrev pub given : Profile → TreePath → Forest → Forest → Forest → For
 given p q j f k = fill p q (merge p j k) f
 
 -- where a line takes the empty root from k, r and d to l, u and e, it does the like where they are given to a folder at q
-record Twin (p : Profile) (most : ℕ) (q : TreePath) (j f : Forest) (line : List ℕ) (k : Forest) (r : TreePath) (d : Said) (l : Forest) (u : TreePath) (e : Said) : Type 0 where
-  grows : Grows p k l
-  onward : Suits p most q j f l → lineDoes p most line (inside (given p q j f k) (q ++ r) d) ≡ goes (inside (given p q j f l) (q ++ u) e)
-  back : Apart p j k → (s : State) → lineDoes p most line (inside (given p q j f k) (q ++ r) d) ≡ goes s → (s ≡ inside (given p q j f l) (q ++ u) e) × Apart p j l
+pub record Twin (p : Profile) (most : ℕ) (q : TreePath) (j f : Forest) (line : List ℕ) (k : Forest) (r : TreePath) (d : Said) (l : Forest) (u : TreePath) (e : Said) : Type 0 where
+  pub grows : Grows p k l
+  pub onward : Suits p most q j f l → lineDoes p most line (inside (given p q j f k) (q ++ r) d) ≡ goes (inside (given p q j f l) (q ++ u) e)
+  pub back : Apart p j k → (s : State) → lineDoes p most line (inside (given p q j f k) (q ++ r) d) ≡ goes s → (s ≡ inside (given p q j f l) (q ++ u) e) × Apart p j l
 
 -- a line that was tried closes the root, or has such a twin
-data Tried (p : Profile) (most : ℕ) (q : TreePath) (j f : Forest) (line : List ℕ) (k : Forest) (r : TreePath) (d : Said) (s : State) : Type 0 where
+pub data Tried (p : Profile) (most : ℕ) (q : TreePath) (j f : Forest) (line : List ℕ) (k : Forest) (r : TreePath) (d : Said) (s : State) : Type 0 where
   ends : s ≡ closed k → Tried p most q j f line k r d s
   twin : (l : Forest) (u : TreePath) (e : Said) → s ≡ inside l u e → Twin p most q j f line k r d l u e → Tried p most q j f line k r d s
 
@@ -112,8 +112,8 @@ module _ {p : Profile} {most : ℕ} {q : TreePath} {j f : Forest} (h : Has p q j
       }
 
   entry-twin : (line : List ℕ) (d : Said) → ((f : Forest) (q : TreePath) → lineDoes p most line (inside f q d) ≡ placed p most n x f q d)
-      → (u : TreePath) → ((q : TreePath) (f : Forest) (d : Said) → opened n x f (q ++ r) d ≡ inside f (q ++ u) d) → Twin p most q j f line k r d grown u d
-  entry-twin line d puts u leads =
+      → Twin p most q j f line k r d grown (pathAfter n x r) d
+  entry-twin line d puts =
       record {
         grows = grown-more;
         onward = λ s. puts (given p q j f k) (q ++ r) ∙ goes-on (placed-on s);
@@ -123,34 +123,31 @@ module _ {p : Profile} {most : ℕ} {q : TreePath} {j f : Forest} (h : Has p q j
             (cc, apart-among p j r n x i k (row .there) t (Q .free) a);
       }
     where
-      goes-on : Place p most (q ++ r) (among p j r i) (given p q j f k) n → placed p most n x (given p q j f k) (q ++ r) d ≡ goes (inside (given p q j f grown) (q ++ u) d)
-      goes-on Q = placed-goes there n x d Q ∙ ap goes (ap (λ (z : Forest). opened n x z (q ++ r) d) given-grown ∙ leads q (given p q j f grown) d)
+      goes-on : Place p most (q ++ r) (among p j r i) (given p q j f k) n → placed p most n x (given p q j f k) (q ++ r) d ≡ goes (inside (given p q j f grown) (q ++ pathAfter n x r) d)
+      goes-on Q = placed-goes there n x d Q ∙ ap goes (ap (λ (z : Forest). opened n x z (q ++ r) d) given-grown ∙ opens n x q r (given p q j f grown) d)
 
 module _ {p : Profile} {most : ℕ} {q : TreePath} {j f : Forest} (h : Has p q j f) where
-  close-tried : (line : List ℕ) (k : Forest) (r : TreePath) (d : Said) (s : State) → ((f : Forest) (q : TreePath) → lineDoes p most line (inside f q d) ≡ goes (close f q d))
-      → lineDoes p most line (inside k r d) ≡ goes s → Tried p most q j f line k r d s
-  close-tried line k [] d s shuts e = let z = shuts k [] in ends (cc)
-  close-tried line k (m ∷ r) d s shuts e =
-      let z = shuts k (m ∷ r) in
-      let one = closes [] (m ∷ r) (omega arith) k d in
-      let real = shuts (given p q j f k) (q ++ (m ∷ r)) ∙ ap goes (closes q (m ∷ r) (omega arith) (given p q j f k) d) in
-      twin k (front (m ∷ r)) d (cc) (record { grows = grows-same p k; onward = λ a. real; back = λ a t b. (cc, a) })
-
-  tried : (line : List ℕ) (k : Forest) (r : TreePath) (d : Said) (s : State) → Inside p most k r → lineDoes p most line (inside k r d) ≡ goes s → Tried p most q j f line k r d s
+  pub tried : (line : List ℕ) (k : Forest) (r : TreePath) (d : Said) (s : State) → Inside p most k r → lineDoes p most line (inside k r d) ≡ goes s → Tried p most q j f line k r d s
   tried line k r d s t e = go (does p most line k r d s e)
     where
+      closed-tried : ((f : Forest) (q : TreePath) → lineDoes p most line (inside f q d) ≡ goes (close f q d)) → Shut k r d → Tried p most q j f line k r d s
+      closed-tried shuts (root-shut z) = let one = shuts k r in ends (cc)
+      closed-tried shuts (folder-shut some z) =
+          let one = shuts k r in
+          let real = shuts (given p q j f k) (q ++ r) ∙ ap goes (closes q r some (given p q j f k) d) in
+          twin k (front r) d (cc) (record { grows = grows-same p k; onward = λ a. real; back = λ a t b. (cc, a) })
+
       go : Does p d line → Tried p most q j f line k r d s
       go (setting v sets) =
           let z = sets most k r in
           let real = sets most (given p q j f k) (q ++ r) in
           twin k r v (cc) (record { grows = grows-same p k; onward = λ a. real; back = λ a t b. (cc, a) })
-      go (closing shuts) = close-tried line k r d s (shuts most) e
+      go (closing shuts) = closed-tried (shuts most) (shut k r d)
       go (entering n x rule row puts) =
           let g = inside-has p most k r t in
           let P = placed-back g n x d s (sym (puts most k r) ∙ e) in
-          let o = opens n x r (row .there) in
-          let z = puts most k r ∙ placed-goes g n x d P ∙ ap goes (o .1 [] (grown h g n x row P) d) in
-          twin (grown h g n x row P) (o .0) d (cc) (entry-twin h g n x row P line d (puts most) (o .0) (o .1))
+          let z = puts most k r ∙ placed-goes g n x d P ∙ ap goes (opens n x [] r (grown h g n x row P) d) in
+          twin (grown h g n x row P) (pathAfter n x r) d (cc) (entry-twin h g n x row P line d (puts most))
 
 -- lines that take an empty root from k, r and d to l and e, and leave no other folder open
 record Twins (p : Profile) (most : ℕ) (q : TreePath) (j f : Forest) (ls : List (List ℕ)) (k : Forest) (r : TreePath) (d : Said) (l : Forest) (e : Said) : Type 0 where
@@ -193,7 +190,7 @@ module _ {p : Profile} {most : ℕ} {q : TreePath} {j f : Forest} (h : Has p q j
           first-twin line ls k r d m u v l e w (ih m u v l e good (rw z at second))
 
 -- what is given nothing is as it was
-given-none : {p : Profile} {q : TreePath} {j f : Forest} → Has p q j f → (d : Said) → inside (given p q j f end) (q ++ []) d ≡ inside f q d
+pub given-none : {p : Profile} {q : TreePath} {j f : Forest} → Has p q j f → (d : Said) → inside (given p q j f end) (q ++ []) d ≡ inside f q d
 unfolding merge
 given-none {q = q} h d = rw (append-nil q, fill-same h)
 

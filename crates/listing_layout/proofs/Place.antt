@@ -18,7 +18,7 @@ use Rattle.tree.proofs.Folds.{entry-fold, fold-absent, reach, reach-absent, rea
 use Rattle.tree.proofs.Size.{rowCount}
 use Rattle.listing.specs.Accepted.{Inside, IsFolder}
 use Rattle.listing.specs.Entries.{Said}
-use Rattle.listing.specs.Reading.{State, State.inside, Step.stops, Step.goes, atKey, close, front, isAbsent, opened, placed}
+use Rattle.listing.specs.Reading.{State, State.inside, State.closed, Step.stops, Step.goes, atKey, close, front, isAbsent, opened, placed}
 use Rattle.listing.proofs.Kept.{split-last}
 use Rattle.listing.proofs.Entered.{is-absent}
 use Rattle.listing.proofs.Steps.{close-last}
@@ -67,11 +67,25 @@ module _ {p : Profile} {most : ℕ} {q : TreePath} {k f : Forest} (h : Has p q k
       go false true true a b c z =
           record { less = leb-false 16 (length q) a; free = fold-absent p _ (sym (found h n) ∙ is-absent _ b); room = ltb-true (suc (size f)) most c }
 
--- a folder entry opens itself, below any path
-pub opens : (n : Name) (x : Node) (r : TreePath) → Present x → (u : TreePath) × ((q : TreePath) (f : Forest) (d : Said) → opened n x f (q ++ r) d ≡ inside f (q ++ u) d)
-opens n absent r h = absurd h
-opens n (file c) r h = (r, λ q f d. refl)
-opens n (folder k) r h = (r ++ (n ∷ []), λ q f d. rw (append-assoc q r (n ∷ [])))
+-- the open path after an entry: a folder opens itself
+abbrev pub pathAfter : Name → Node → TreePath → TreePath
+pathAfter n absent r = r
+pathAfter n (file c) r = r
+pathAfter n (folder k) r = r ++ (n ∷ [])
+
+pub opens : (n : Name) (x : Node) (q r : TreePath) (f : Forest) (d : Said) → opened n x f (q ++ r) d ≡ inside f (q ++ pathAfter n x r) d
+opens n absent q r f d = refl
+opens n (file c) q r f d = refl
+opens n (folder k) q r f d = rw (append-assoc q r (n ∷ []))
+
+-- what closes is the root, or a folder that is not
+pub data Shut (f : Forest) (q : TreePath) (d : Said) : Type 0 where
+  root-shut : close f q d ≡ closed f → Shut f q d
+  folder-shut : 0 < length q → close f q d ≡ inside f (front q) d → Shut f q d
+
+pub shut : (f : Forest) (q : TreePath) (d : Said) → Shut f q d
+shut f [] d = root-shut refl
+shut f (n ∷ q) d = folder-shut (omega arith) refl
 
 pub closes : (q r : TreePath) → 0 < length r → (f : Forest) (d : Said) → close f (q ++ r) d ≡ inside f (q ++ front r) d
 closes q r some f d =
@@ -133,6 +147,10 @@ module _ (p : Profile) (j : Forest) where
   unfolding putIn
   free-among [] n x k f h H free a = merge-free p (key p n) j k free (a (key p n) (rw (entry-same p n x h k) h))
   free-among (m ∷ r) n x k f h H free a = free
+
+  pub free-here : (r : TreePath) (n : Name) (k : Forest) → entry p (key p n) (among p j r k) ≡ absent → entry p (key p n) k ≡ absent
+  free-here [] n k free = free-both p (key p n) j k free .0
+  free-here (m ∷ r) n k free = free
 
   apart-update : (n : Name) (x : Node) (f : Forest) → Present x → entry p (key p n) j ≡ absent → Apart p j f → Apart p j (updateIn p n x f)
   apart-update n x f h free a c there = go (cmp c (key p n)) refl
