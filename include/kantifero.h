@@ -119,7 +119,8 @@ void kantifero_carried(uint32_t profile, const uint32_t *left, size_t left_words
    no zero byte is put after it. Refused, text is as it was: 1, 2 and 16, then 3, all with side 1. */
 void kantifero_write(uint32_t profile, const uint32_t *table, size_t words, uint8_t *text, size_t bytes, uint32_t answer[8]);
 
-/* Reads an mtree listing of at most 65,536 bytes into a table.
+/* Reads an mtree listing of at most 65,536 bytes into a table. A type that /set gives as the default holds from that line
+   on, wherever folders open and close, until another /set or /unset changes it.
 
    Accepted, the table's rows stand at the start of table, all words past them are 0, and the place is the number of rows.
    Refused, all of table is 0: 6; then the first faulty line, numbered from 1, in the order 7, 11, 8, 9, 10, 14, 13, 3;

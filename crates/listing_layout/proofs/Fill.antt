@@ -1,16 +1,16 @@
--- A folder of a tree that is filled anew, the folder found by key: what stands there then, the tree's size, and fillings one after
--- the other.
+-- A folder of a tree that is filled anew, the folder found by key: what stands there then and what stands there still, the tree's
+-- size, fillings one after the other and one below the other.
 use mathlib.Core.Path.{_≡_, refl, ap, sym, _∙_}
 use mathlib.Core.List.{[], _∷_, _++_}
 use native.Mathlib.Omega.{arith}
-use Prim.Native.Nat.{_+_, Ordering, Ordering·lt, Ordering·eq, Ordering·gt}
-use Rattle.tree.specs.Name.{Name, cmp}
+use Prim.Native.Nat.{_+_}
+use Rattle.tree.specs.Name.{Name}
 use Rattle.tree.specs.Forest.{Forest, Node, Node.absent, Node.file, Node.folder, TreePath, Present, Sorted, SortedNode, at, find, kids, size}
 use Rattle.tree.specs.Put.{put, Reaches}
 use Rattle.tree.specs.Key.{key, fold, foldNode, foldPath, entry, putIn, updateIn}
 use Rattle.tree.specs.declared.Profile.{Profile}
 use Rattle.tree.proofs.Never.{never}
-use Rattle.tree.proofs.Order.{cmp-eq, cmp-refl}
+use Rattle.tree.proofs.Order.{cmp-refl}
 use Rattle.tree.proofs.Forest.{sorted-at, sorted-find}
 use Rattle.tree.proofs.Put.{sorted-put}
 use Rattle.tree.proofs.Size.{size-put, rowCount}
@@ -18,7 +18,7 @@ use Rattle.tree.proofs.Folds.{entry-fold, reach, reach-absent, reach-fold, size
 use Rattle.tree.proofs.Spots.{fold-putIn, path-append}
 use Rattle.listing.specs.Reading.{atKey}
 use Rattle.listing.proofs.Parent.{parent-last}
-use Rattle.listing_layout.proofs.Siblings.{entry-other, entry-same, update-over, update-entry}
+use Rattle.listing_layout.proofs.Siblings.{Compared, Compared.one, Compared.two, compared, entry-other, entry-same, update-over, update-entry}
 
 -- what is put where a folder stands
 module _ (p : Profile) where
@@ -65,16 +65,15 @@ module _ (p : Profile) where
   put-keeps (n ∷ q) x absent k h e more c there = there
   put-keeps (n ∷ q) x (file b) k h e more c there = there
   put-keeps (n ∷ q) x (folder f) k h e more [] there = tt
-  put-keeps (n ∷ q) x (folder f) k h e more (m ∷ c) there = go (cmp m (key p n)) refl (put-keeps q x (entry p (key p n) f) k h e more c)
+  put-keeps (n ∷ q) x (folder f) k h e more (m ∷ c) there = go (compared m (key p n)) (put-keeps q x (entry p (key p n) f) k h e more c)
     where
       new : Present (putIn p q x (entry p (key p n) f))
       new = put-present q x (entry p (key p n) f) k h e
 
-      go : (w : Ordering) → cmp m (key p n) ≡ w → (Present (reach p (entry p (key p n) f) c) → Present (reach p (putIn p q x (entry p (key p n) f)) c))
+      go : Compared m (key p n) → (Present (reach p (entry p (key p n) f) c) → Present (reach p (putIn p q x (entry p (key p n) f)) c))
           → Present (reach p (entry p m (updateIn p n (putIn p q x (entry p (key p n) f)) f)) c)
-      go Ordering·lt v ih = rw (entry-other p n m (λ u. never (cc)) _ new f) there
-      go Ordering·eq v ih = rw (cmp-eq m (key p n) v, entry-same p n _ new f) (ih (rw (cmp-eq m (key p n) v) at there))
-      go Ordering·gt v ih = rw (entry-other p n m (λ u. never (cc)) _ new f) there
+      go (one v) ih = rw (v, entry-same p n _ new f) (ih (rw v at there))
+      go (two d) ih = rw (entry-other p n m d _ new f) there
 
   -- what stands there already, put there
   put-at : (q : TreePath) (t : Node) → SortedNode (foldNode p t) → putIn p q (reach p t (foldPath p q)) t ≡ t

@@ -4,20 +4,20 @@ use mathlib.Core.Path.{_≡_, refl, ap, sym, subst, _∙_}
 use mathlib.Core.List.{[], _∷_}
 use native.Mathlib.Omega.{arith}
 use Prim.Native.Nat.{suc, _+_, Ordering, Ordering·lt, Ordering·eq, Ordering·gt}
-use Rattle.tree.specs.Name.{Name, cmp, byOrder, ifSame}
+use Rattle.tree.specs.Name.{Name, cmp, byOrder}
 use Rattle.tree.specs.Forest.{Forest, Forest.end, Forest.leaf, Forest.dir, Node, Node.absent, Node.file, Node.folder, Present, Above, Sorted, at, find, size, add}
 use Rattle.tree.specs.Put.{put, Reaches}
 use Rattle.tree.specs.Key.{key, fold, foldNode, entry, updateIn}
 use Rattle.tree.specs.declared.Profile.{Profile}
 use Rattle.tree.proofs.Never.{never}
-use Rattle.tree.proofs.Order.{flip, cmp-eq, cmp-flip, cmp-refl}
+use Rattle.tree.proofs.Order.{flip, cmp-flip}
 use Rattle.tree.proofs.Forest.{Differ, siblings-ind, sorted-parts, find-above}
 use Rattle.tree.proofs.Size.{rowCount, size-add, size-put}
-use Rattle.tree.proofs.Folds.{entry-add, entry-fold, fold-absent, fold-add, present-fold, size-fold}
+use Rattle.tree.proofs.Folds.{entry-fold, fold-absent, fold-add, present-fold, size-fold}
 use Rattle.tree.proofs.Spots.{updateIn-add, fold-updateIn}
-use Rattle.listing_layout.proofs.Siblings.{entry-other, entry-same, sorted-updateIn, update-over, update-swap}
+use Rattle.listing_layout.proofs.Siblings.{Compared, Compared.one, Compared.two, add-other, add-same, compared, entry-other, entry-same, sorted-updateIn, update-over, update-swap}
 
-pub rows-fold : (p : Profile) (x : Node) → rowCount (foldNode p x) ≡ rowCount x
+rows-fold : (p : Profile) (x : Node) → rowCount (foldNode p x) ≡ rowCount x
 rows-fold p absent = refl
 rows-fold p (file c) = refl
 rows-fold p (folder k) = ap suc (size-fold p k)
@@ -77,12 +77,11 @@ module _ (p : Profile) where
     where
       more : (m : Name) (y : Node) (s : Forest) → Present y → entry p c (merge j s) ≡ orElse (entry p c s) (entry p c j)
           → entry p c (merge j (add m y s)) ≡ orElse (entry p c (add m y s)) (entry p c j)
-      more m y s hy ih = rw (merge-add j m y s hy, entry-add p c m y s hy) (go (cmp c (key p m)) refl)
+      more m y s hy ih = rw (merge-add j m y s hy) (go (compared c (key p m)))
         where
-          go : (w : Ordering) → cmp c (key p m) ≡ w → entry p c (updateIn p m y (merge j s)) ≡ orElse (ifSame w y (entry p c s)) (entry p c j)
-          go Ordering·lt e = entry-other p m c (λ q. never (cc)) y hy (merge j s) ∙ ih
-          go Ordering·eq e = rw (cmp-eq c (key p m) e, entry-same p m y hy (merge j s), or-there y (entry p (key p m) j) hy)
-          go Ordering·gt e = entry-other p m c (λ q. never (cc)) y hy (merge j s) ∙ ih
+          go : Compared c (key p m) → entry p c (updateIn p m y (merge j s)) ≡ orElse (entry p c (add m y s)) (entry p c j)
+          go (one e) = rw (e, entry-same p m y hy (merge j s), add-same p m y s hy, or-there y (entry p (key p m) j) hy)
+          go (two d) = rw (entry-other p m c d y hy (merge j s), add-other p c m y s hy d) ih
 
   -- no key of k is one of j
   abbrev pub Apart : Forest → Forest → Type 0
@@ -111,15 +110,14 @@ module _ (p : Profile) where
 
   -- an entry more than s
   apart-rest : (j : Forest) (m : Name) (y : Node) (s : Forest) → Present y → Apart j (add m y s) → Apart j s
-  apart-rest j m y s hy a c h = a c (rw (entry-add p c m y s hy) (go (cmp c (key p m))))
+  apart-rest j m y s hy a c h = a c (go (compared c (key p m)))
     where
-      go : (w : Ordering) → Present (ifSame w y (entry p c s))
-      go Ordering·lt = h
-      go Ordering·eq = hy
-      go Ordering·gt = h
+      go : Compared c (key p m) → Present (entry p c (add m y s))
+      go (one e) = rw (e, add-same p m y s hy) hy
+      go (two d) = rw (add-other p c m y s hy d) h
 
   apart-first : (j : Forest) (m : Name) (y : Node) (s : Forest) → Present y → Apart j (add m y s) → entry p (key p m) j ≡ absent
-  apart-first j m y s hy a = a (key p m) (rw (entry-add p (key p m) m y s hy, cmp-refl (key p m)) hy)
+  apart-first j m y s hy a = a (key p m) (rw (add-same p m y s hy) hy)
 
   first-gone : (m : Name) (s : Forest) → Above (key p m) (fold p s) → entry p (key p m) s ≡ absent
   first-gone m s a = fold-absent p (entry p (key p m) s) (entry-fold p (key p m) s ∙ find-above (key p m) (fold p s) a)
@@ -143,16 +141,11 @@ module _ (p : Profile) where
     where
       more : (m : Name) (y : Node) (s : Forest) → Present y → (entry p (key p n) s ≡ absent → merge (updateIn p n x j) s ≡ updateIn p n x (merge j s))
           → entry p (key p n) (add m y s) ≡ absent → merge (updateIn p n x j) (add m y s) ≡ updateIn p n x (merge j (add m y s))
-      more m y s hy ih e = rw (merge-add (updateIn p n x j) m y s hy, merge-add j m y s hy) (go (cmp (key p n) (key p m)) refl (rw (entry-add p (key p n) m y s hy) at e))
+      more m y s hy ih e = rw (merge-add (updateIn p n x j) m y s hy, merge-add j m y s hy) (go (compared (key p n) (key p m)))
         where
-          swap : Differ (key p m) (key p n) → entry p (key p n) s ≡ absent → updateIn p m y (merge (updateIn p n x j) s) ≡ updateIn p n x (updateIn p m y (merge j s))
-          swap d q = ap (updateIn p m y) (ih q) ∙ sym (update-swap p n m x y h hy d (merge j s))
-
-          go : (w : Ordering) → cmp (key p n) (key p m) ≡ w → ifSame w y (entry p (key p n) s) ≡ absent
-              → updateIn p m y (merge (updateIn p n x j) s) ≡ updateIn p n x (updateIn p m y (merge j s))
-          go Ordering·lt v q = swap (not-same n m (λ z. never (cc))) q
-          go Ordering·eq v q = absurd (subst Present q hy)
-          go Ordering·gt v q = swap (not-same n m (λ z. never (cc))) q
+          go : Compared (key p n) (key p m) → updateIn p m y (merge (updateIn p n x j) s) ≡ updateIn p n x (updateIn p m y (merge j s))
+          go (one v) = absurd (subst Present (sym (add-same p m y s hy) ∙ rw v at e) hy)
+          go (two d) = ap (updateIn p m y) (ih (sym (add-other p (key p n) m y s hy d) ∙ e)) ∙ sym (update-swap p n m x y h hy (not-same n m d) (merge j s))
 
   pub merge-swap : (j l : Forest) → (k : Forest) → Apart l k → merge (merge j k) l ≡ merge (merge j l) k
   unfolding merge

@@ -1,19 +1,18 @@
--- An entry placed in a folder whose entries are known, and where that leaves the path; a folder closed; and the same in a tree
--- among whose entries others were merged.
+-- An entry placed in a folder whose entries are known, and a folder closed, below any path; and the open folder of a tree once other
+-- entries were merged with those of its root.
 use mathlib.Core.Path.{_≡_, refl, ap, sym, _∙_}
 use mathlib.Core.List.{[], _∷_, _++_, append-assoc}
 use mathlib.Core.Bool.{Bool, true, false, cond}
 use native.Mathlib.Omega.{arith}
 use lib.Dec.{leb, ltb}
 use lib.ListN.{length, getD}
-use Prim.Native.Nat.{ℕ, suc, _+_, _-_, _<_, Ordering, Ordering·lt, Ordering·eq, Ordering·gt}
+use Prim.Native.Nat.{ℕ, suc, _+_, _-_, _<_}
 use borrow.Author.Tests.{lt-leb, lt-ltb, leb-false, ltb-true}
-use Rattle.tree.specs.Name.{Name, cmp}
+use Rattle.tree.specs.Name.{Name}
 use Rattle.tree.specs.Forest.{Forest, Node, Node.absent, Node.file, Node.folder, TreePath, Present, Sorted, kids, size}
 use Rattle.tree.specs.Key.{key, fold, foldNode, foldPath, entry, putIn, updateIn}
 use Rattle.tree.specs.declared.Profile.{Profile}
 use Rattle.tree.proofs.Never.{never}
-use Rattle.tree.proofs.Order.{cmp-eq}
 use Rattle.tree.proofs.Folds.{entry-fold, fold-absent, reach, reach-absent, reach-fold}
 use Rattle.tree.proofs.Size.{rowCount}
 use Rattle.listing.specs.Accepted.{Inside, IsFolder}
@@ -22,7 +21,7 @@ use Rattle.listing.specs.Reading.{State, State.inside, State.closed, Step.stops
 use Rattle.listing.proofs.Kept.{split-last}
 use Rattle.listing.proofs.Entered.{is-absent}
 use Rattle.listing.proofs.Steps.{close-last}
-use Rattle.listing_layout.proofs.Siblings.{entry-other, entry-same}
+use Rattle.listing_layout.proofs.Siblings.{Compared, Compared.one, Compared.two, compared, entry-other, entry-same}
 use Rattle.listing_layout.proofs.Merge.{Apart, entry-merge, free-both, merge, merge-free, merge-update, or-there, size-new, sorted-merge}
 use Rattle.listing_layout.proofs.Fill.{fill, Has, has-sorted, has-entry, fill-last, put-present, size-fill}
 
@@ -98,12 +97,11 @@ pub new-keeps : (p : Profile) (n : Name) (x : Node) (k : Forest) → Present x �
     → Present (reach p (folder (updateIn p n x k)) c)
 unfolding reach
 new-keeps p n x k h free [] there = tt
-new-keeps p n x k h free (m ∷ c) there = go (cmp m (key p n)) refl
+new-keeps p n x k h free (m ∷ c) there = go (compared m (key p n))
   where
-    go : (w : Ordering) → cmp m (key p n) ≡ w → Present (reach p (entry p m (updateIn p n x k)) c)
-    go Ordering·lt v = rw (entry-other p n m (λ u. never (cc)) x h k) there
-    go Ordering·eq v = absurd (rw (cmp-eq m (key p n) v, free, reach-absent p c) at there)
-    go Ordering·gt v = rw (entry-other p n m (λ u. never (cc)) x h k) there
+    go : Compared m (key p n) → Present (reach p (entry p m (updateIn p n x k)) c)
+    go (one e) = absurd (rw (e, free, reach-absent p c) at there)
+    go (two d) = rw (entry-other p n m d x h k) there
 
 -- the entries of the open folder, once j was merged with the entries of the root
 abbrev pub among : Profile → Forest → TreePath → Forest → Forest
@@ -153,12 +151,11 @@ module _ (p : Profile) (j : Forest) where
   free-here (m ∷ r) n k free = free
 
   apart-update : (n : Name) (x : Node) (f : Forest) → Present x → entry p (key p n) j ≡ absent → Apart p j f → Apart p j (updateIn p n x f)
-  apart-update n x f h free a c there = go (cmp c (key p n)) refl
+  apart-update n x f h free a c there = go (compared c (key p n))
     where
-      go : (w : Ordering) → cmp c (key p n) ≡ w → entry p c j ≡ absent
-      go Ordering·lt v = a c (rw (entry-other p n c (λ u. never (cc)) x h f) at there)
-      go Ordering·eq v = rw (cmp-eq c (key p n) v) free
-      go Ordering·gt v = a c (rw (entry-other p n c (λ u. never (cc)) x h f) at there)
+      go : Compared c (key p n) → entry p c j ≡ absent
+      go (one e) = rw e free
+      go (two d) = a c (rw (entry-other p n c d x h f) at there)
 
   pub apart-among : (r : TreePath) (n : Name) (x : Node) (k f : Forest) → Present x → Has p r k f → entry p (key p n) (among p j r k) ≡ absent → Apart p j f
       → Apart p j (fill p r (updateIn p n x k) f)

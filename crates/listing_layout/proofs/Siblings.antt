@@ -6,11 +6,36 @@ use Rattle.tree.specs.Name.{Name, cmp, byOrder, ifSame}
 use Rattle.tree.specs.Forest.{Forest, Forest.end, Node, Node.absent, Present, Above, Sorted, SortedNode, add}
 use Rattle.tree.specs.Key.{key, fold, foldNode, entry, updateIn}
 use Rattle.tree.specs.declared.Profile.{Profile}
+use Rattle.tree.proofs.Never.{never}
 use Rattle.tree.proofs.Order.{flip, cmp-eq, cmp-flip, cmp-refl, cmp-trans}
 use Rattle.tree.proofs.Forest.{Differ, siblings-ind, sorted-parts, above-trans, find-above}
 use Rattle.tree.proofs.Put.{sorted-update}
 use Rattle.tree.proofs.Folds.{entry-add, entry-fold, fold-absent, fold-add, present-fold}
 use Rattle.tree.proofs.Spots.{updateIn-add, fold-updateIn}
+
+-- two keys are one, or they differ
+pub data Compared (k n : Name) : Type 0 where
+  one : k ≡ n → Compared k n
+  two : Differ k n → Compared k n
+
+pub compared : (k n : Name) → Compared k n
+compared k n = go (cmp k n) refl
+  where
+    go : (w : Ordering) → cmp k n ≡ w → Compared k n
+    go Ordering·lt e = two (λ z. never (cc))
+    go Ordering·eq e = one (cmp-eq k n e)
+    go Ordering·gt e = two (λ z. never (cc))
+
+pub add-other : (p : Profile) (k m : Name) (y : Node) (s : Forest) → Present y → Differ k (key p m) → entry p k (add m y s) ≡ entry p k s
+add-other p k m y s h d = rw (entry-add p k m y s h) (go (cmp k (key p m)) refl)
+  where
+    go : (w : Ordering) → cmp k (key p m) ≡ w → ifSame w y (entry p k s) ≡ entry p k s
+    go Ordering·lt e = refl
+    go Ordering·eq e = absurd (d e)
+    go Ordering·gt e = refl
+
+pub add-same : (p : Profile) (m : Name) (y : Node) (s : Forest) → Present y → entry p (key p m) (add m y s) ≡ y
+add-same p m y s h = rw (entry-add p (key p m) m y s h, cmp-refl (key p m))
 
 module _ (p : Profile) (n : Name) where
   pub sorted-updateIn : (x : Node) → SortedNode (foldNode p x) → (f : Forest) → Sorted (fold p f) → Sorted (fold p (updateIn p n x f))
@@ -30,25 +55,17 @@ module _ (p : Profile) (n : Name) where
           go Ordering·gt e = rw (entry-add p (key p n) m y (updateIn p n x s) hy, e) ih
 
   pub entry-other : (k : Name) → Differ k (key p n) → (x : Node) → Present x → (f : Forest) → entry p k (updateIn p n x f) ≡ entry p k f
-  unfolding updateIn entry
-  entry-other k d x h = siblings-ind (λ (f : Forest). entry p k (updateIn p n x f) ≡ entry p k f) (apart n x end h d) more
+  unfolding updateIn
+  entry-other k d x h = siblings-ind (λ (f : Forest). entry p k (updateIn p n x f) ≡ entry p k f) (add-other p k n x end h d) more
     where
-      apart : (m : Name) (y : Node) (s : Forest) → Present y → Differ k (key p m) → entry p k (add m y s) ≡ entry p k s
-      apart m y s hy e = rw (entry-add p k m y s hy) (go (cmp k (key p m)) refl)
-        where
-          go : (w : Ordering) → cmp k (key p m) ≡ w → ifSame w y (entry p k s) ≡ entry p k s
-          go Ordering·lt q = refl
-          go Ordering·eq q = absurd (e q)
-          go Ordering·gt q = refl
-
       more : (m : Name) (y : Node) (s : Forest) → Present y → entry p k (updateIn p n x s) ≡ entry p k s → entry p k (updateIn p n x (add m y s)) ≡ entry p k (add m y s)
       more m y s hy ih = rw (updateIn-add p n m x y s hy) (go (cmp (key p n) (key p m)) refl)
         where
           go : (w : Ordering) → cmp (key p n) (key p m) ≡ w → entry p k (byOrder w (add n x (add m y s)) (add m x s) (add m y (updateIn p n x s))) ≡ entry p k (add m y s)
-          go Ordering·lt e = apart n x (add m y s) h d
+          go Ordering·lt e = add-other p k n x (add m y s) h d
           go Ordering·eq e =
-              let other : Differ k (key p m) = rw (cmp-eq (key p n) (key p m) e) at d in
-              apart m x s h other ∙ sym (apart m y s hy other)
+              let apart : Differ k (key p m) = rw (cmp-eq (key p n) (key p m) e) at d in
+              add-other p k m x s h apart ∙ sym (add-other p k m y s hy apart)
           go Ordering·gt e = rw (entry-add p k m y (updateIn p n x s) hy, entry-add p k m y s hy, ih)
 
   -- an entry changed to itself

@@ -260,6 +260,7 @@ pub fn write(profile: Profile, table: &[u32], text: &mut [u8]) -> Result<usize, 
 }
 
 /// Reads an mtree listing into a table, which is zeroed first, and tells its rows. After a refusal the table is all zero.
+/// A type that /set gives as the default holds until another /set or /unset changes it.
 ///
 /// ```
 /// use kantifero::Profile::{Exact, Folded};
@@ -269,6 +270,10 @@ pub fn write(profile: Profile, table: &[u32], text: &mut [u8]) -> Result<usize, 
 /// assert_eq!(table, [0; 40]);
 /// let refusal = kantifero::read(Exact, b"# a comment\n. type=file\n", &mut table).unwrap_err();
 /// assert_eq!((refusal.number, refusal.place), (10, 2));
+///
+/// // The default that is set in a holds after it too.
+/// let text = b". type=dir\na type=dir\n/set type=dir\n..\nb\n";
+/// assert_eq!(kantifero::read(Exact, text, &mut [0; 60]), Ok(3));
 ///
 /// // A and a are one name where letter case is ignored.
 /// let text = b". type=dir\nA type=dir\n..\na type=dir\n";
