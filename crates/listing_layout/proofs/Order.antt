@@ -1,4 +1,4 @@
--- The order in which a folder's entries are listed changes nothing.
+-- The order in which two parts of a folder are listed changes nothing, where each gives the same entries either way.
 use mathlib.Core.Path.{_≡_, refl, ap, sym, subst, _∙_}
 use mathlib.Core.List.{List, _++_, append-assoc}
 use native.Mathlib.Omega.{arith}
@@ -26,8 +26,8 @@ use Rattle.listing_layout.proofs.Parts.{Suits, given, given-deep, has-g
 -- two parts in turn, x first, in the folder at q of the tree f, which has the entries j
 module _ (p : Profile) (most : ℕ) (q : TreePath) (j f : Forest) (h : Has p q j f) (room : 0 < most) (d : Said) (x y : List ℕ) (k l : Forest) (e : Said)
     (X : InTurn p most d x k y l e) where
-  -- they were accepted
-  record Both : Type 0 where
+  -- they were taken, one after the other
+  record Taken : Type 0 where
     apart-x : Apart p j k
     apart-y : Apart p (merge p j k) l
     last : Inside p most (fill p q (merge p (merge p j k) l) f) q
@@ -36,7 +36,7 @@ module _ (p : Profile) (most : ℕ) (q : TreePath) (j f : Forest) (h : Has p q j
   mid = has-given h k (part-sorted h room (pieces x) d (X .first))
 
   both-back : Inside p most f q → (s : State) → through p most (pieces x ++ pieces y) (inside f q d) ≡ goes s
-      → (s ≡ inside (fill p q (merge p (merge p j k) l) f) q e) × Both
+      → (s ≡ inside (fill p q (merge p (merge p j k) l) f) q e) × Taken
   both-back t s g =
       let b = both _ _ s (rw (through-append p most (pieces x) (pieces y) (inside f q d)) at g) in
       let one = part-back h room (pieces x) d (X .first) (b .between) (b .first) in
