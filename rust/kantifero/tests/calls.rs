@@ -2,7 +2,7 @@
 mod common;
 
 use common::{cases, file, row, tree, CANARY};
-use kantifero::Profile::Exact;
+use kantifero::Profile::{Exact, Folded};
 use kantifero::{Refusal, Tally, NO_ROW, ROW};
 
 #[test]
@@ -77,6 +77,30 @@ fn a_text_is_written_and_read_back() {
             assert_eq!(back[..table.len()], table[..]);
             assert!(back[table.len()..].iter().all(|word| *word == 0));
         }
+    }
+}
+
+/// As a clinic's own tool writes it: the default is set in the first folder, and meant for all of the text.
+#[test]
+fn a_default_set_in_a_folder_holds_to_the_end() {
+    let day = format!("size=0 sha256digest={:08x}{}", 7, "0".repeat(56));
+    let left = format!(". type=dir\nleft type=dir\n/set type=file\nx {day}\n");
+    let right = format!("..\nright type=dir\ny {day}\n..\n..\n");
+    let due = tree(&[
+        row(1, 0, b"left", 0),
+        row(2, 1, b"x", 7),
+        row(1, 0, b"right", 0),
+        row(2, 1, b"y", 7),
+    ]);
+    for profile in [Exact, Folded] {
+        let mut table = [CANARY; 110];
+        let text = format!("{left}{right}");
+        assert_eq!(kantifero::read(profile, text.as_bytes(), &mut table), Ok(5));
+        assert_eq!(table[..100], due[..]);
+        assert_eq!(table[100..], [0; 10]);
+        let text = format!("{left}/unset type\n{right}");
+        let refusal = kantifero::read(profile, text.as_bytes(), &mut table).unwrap_err();
+        assert_eq!((refusal.number, refusal.place), (10, 8));
     }
 }
 
