@@ -1,4 +1,4 @@
--- What is known of a state is kept through lines.
+-- What is known of a state is kept by a line, and through lines.
 use mathlib.Core.Path.{_≡_, subst}
 use mathlib.Core.List.{List, [], _∷_}
 use Prim.Native.Nat.{ℕ}
@@ -10,6 +10,9 @@ use Rattle.listing.proofs.Accepted.{good-words}
 use Rattle.listing_layout.specs.Parts.{andThen, through}
 
 module _ (p : Profile) (most : ℕ) where
+  pub good-line : (l : List ℕ) (s t : State) → GoodState p most s → lineDoes p most l s ≡ goes t → GoodState p most t
+  good-line l s t h e = subst (GoodStep p most) e (good-words p most (isText l) (words l) s h)
+
   lines-kept : (ls : List (List ℕ)) (s : State) → GoodState p most s → GoodStep p most (through p most ls s)
   unfolding through
   lines-kept [] s h = h

@@ -1,6 +1,6 @@
 -- A part does in any open folder what it does in an empty root: where its entries have a place it puts them among the folder's, and
 -- where it is accepted they had one.
-use mathlib.Core.Path.{_≡_, refl, ap, sym, subst, _∙_}
+use mathlib.Core.Path.{_≡_, refl, ap, sym, _∙_}
 use mathlib.Core.List.{List, [], _∷_, _++_, append-nil}
 use native.Mathlib.Omega.{arith}
 use lib.ListN.{length, length-append, length-map}
@@ -13,16 +13,14 @@ use Rattle.tree.specs.Rules.{ContentRule, NameRule, Within}
 use Rattle.tree.proofs.Folds.{reach, reach-absent, within-entry}
 use Rattle.tree.proofs.Rules.{WithinNode, within-kids}
 use Rattle.tree.proofs.Spots.{path-append}
-use Rattle.listing.specs.Accepted.{GoodStep, Inside}
+use Rattle.listing.specs.Accepted.{Inside}
 use Rattle.listing.specs.Entries.{Said}
-use Rattle.listing.specs.Words.{isText, words}
 use Rattle.listing.specs.Reading.{State, State.inside, State.closed, Step.goes, close, front, lineDoes, opened, placed}
-use Rattle.listing.proofs.Accepted.{good-words}
 use Rattle.listing.proofs.Entered.{OneRow}
 use Rattle.listing.proofs.Kept.{root-state}
 use Rattle.listing_layout.specs.Parts.{through, Part}
 use Rattle.listing_layout.proofs.Does.{Does, Does.setting, Does.closing, Does.entering, does, closed-stays}
-use Rattle.listing_layout.proofs.Good.{good-through}
+use Rattle.listing_layout.proofs.Good.{good-line, good-through}
 use Rattle.listing_layout.proofs.Runs.{both}
 use Rattle.listing_layout.proofs.Siblings.{entry-same, sorted-updateIn}
 use Rattle.listing_layout.proofs.Merge.{Apart, entry-merge, merge, or-there, size-merge, sorted-merge}
@@ -75,6 +73,9 @@ module _ {p : Profile} {q : TreePath} {j f : Forest} (h : Has p q j f) where
   pub has-given : (k : Forest) → Sorted (fold p k) → Has p q (merge p j k) (given p q j f k)
   has-given k sk = fill-has h (merge p j k) (sorted-merge p j (has-sorted h) k sk)
 
+  pub has-there : {r : TreePath} {i k : Forest} → Has p r i k → Has p (q ++ r) (among p j r i) (given p q j f k)
+  has-there {r} {i} {k} t = has-below (has-given k (t .sorted)) (has-among p j (has-sorted h) r i k t)
+
 -- an entry n, which is x, in the folder at r of the tree k, which has the entries i
 module _ {p : Profile} {most : ℕ} {q : TreePath} {j f : Forest} (h : Has p q j f) {r : TreePath} {i k : Forest} (t : Has p r i k) (n : Name) (x : Node) (row : OneRow x)
     (P : Place p most r i k n) where
@@ -86,9 +87,6 @@ module _ {p : Profile} {most : ℕ} {q : TreePath} {j f : Forest} (h : Has p q j
 
   grown-more : Grows p k grown
   grown-more = record { there = fill-keeps t (updateIn p n x i) (new-keeps p n x i (row .there) (P .free)); more = omega (arith, more-rows) }
-
-  there : Has p (q ++ r) (among p j r i) (given p q j f k)
-  there = has-below (has-given h k (t .sorted)) (has-among p j (has-sorted h) r i k t)
 
   given-grown : fill p (q ++ r) (updateIn p n x (among p j r i)) (given p q j f k) ≡ given p q j f grown
   given-grown =
@@ -118,13 +116,13 @@ module _ {p : Profile} {most : ℕ} {q : TreePath} {j f : Forest} (h : Has p q j
         grows = grown-more;
         onward = λ s. puts (given p q j f k) (q ++ r) ∙ goes-on (placed-on s);
         back = λ a s e.
-            let Q = placed-back there n x d s (sym (puts (given p q j f k) (q ++ r)) ∙ e) in
+            let Q = placed-back (has-there h t) n x d s (sym (puts (given p q j f k) (q ++ r)) ∙ e) in
             let first = puts (given p q j f k) (q ++ r) ∙ goes-on Q in
             (cc, apart-among p j r n x i k (row .there) t (Q .free) a);
       }
     where
       goes-on : Place p most (q ++ r) (among p j r i) (given p q j f k) n → placed p most n x (given p q j f k) (q ++ r) d ≡ goes (inside (given p q j f grown) (q ++ pathAfter n x r) d)
-      goes-on Q = placed-goes there n x d Q ∙ ap goes (ap (λ (z : Forest). opened n x z (q ++ r) d) given-grown ∙ opens n x q r (given p q j f grown) d)
+      goes-on Q = placed-goes (has-there h t) n x d Q ∙ ap goes (ap (λ (z : Forest). opened n x z (q ++ r) d) given-grown ∙ opens n x q r (given p q j f grown) d)
 
 module _ {p : Profile} {most : ℕ} {q : TreePath} {j f : Forest} (h : Has p q j f) where
   pub tried : (line : List ℕ) (k : Forest) (r : TreePath) (d : Said) (s : State) → Inside p most k r → lineDoes p most line (inside k r d) ≡ goes s → Tried p most q j f line k r d s
@@ -186,7 +184,7 @@ module _ {p : Profile} {most : ℕ} {q : TreePath} {j f : Forest} (h : Has p q j
           → Twins p most q j f (line ∷ ls) k r d l e
       go s first second (ends z) ih = closed-stays p most ls k (rw z at second)
       go s first second (twin m u v z w) ih =
-          let good : Inside p most m u = subst (GoodStep p most) (first ∙ ap goes z) (good-words p most (isText line) (words line) (inside k r d) t) in
+          let good = good-line p most line (inside k r d) (inside m u v) t (first ∙ ap goes z) in
           first-twin line ls k r d m u v l e w (ih m u v l e good (rw z at second))
 
 -- what is given nothing is as it was

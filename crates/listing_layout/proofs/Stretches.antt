@@ -12,21 +12,20 @@ use Rattle.tree.specs.declared.Profile.{Profile}
 use Rattle.tree.proofs.Never.{never}
 use Rattle.tree.proofs.Folds.{reach}
 use Rattle.tree.proofs.Spots.{path-append}
-use Rattle.listing.specs.Accepted.{GoodState, GoodStep, Inside}
+use Rattle.listing.specs.Accepted.{GoodState, Inside}
 use Rattle.listing.specs.Entries.{Said}
-use Rattle.listing.specs.Words.{isText, words}
 use Rattle.listing.specs.Reading.{State, State.inside, State.closed, Step, Step.goes, close, front, lineDoes}
-use Rattle.listing.proofs.Accepted.{good-words}
 use Rattle.listing.proofs.Entered.{OneRow}
 use Rattle.listing.proofs.Kept.{root-state, split-last}
 use Rattle.listing.proofs.Steps.{front-last}
 use Rattle.listing_layout.specs.Parts.{andThen, through, EveryStretchIsAPart}
 use Rattle.listing_layout.proofs.Does.{Does, Does.setting, Does.closing, Does.entering, does, closed-stays}
+use Rattle.listing_layout.proofs.Good.{good-line}
 use Rattle.listing_layout.proofs.Runs.{both}
 use Rattle.listing_layout.proofs.Merge.{Apart}
-use Rattle.listing_layout.proofs.Parts.{Tried, Tried.ends, Tried.twin, given, given-none, has-given, size-given, tried}
-use Rattle.listing_layout.proofs.Fill.{fill, fill-keeps, Has, has-below, has-sorted, reach-append}
-use Rattle.listing_layout.proofs.Place.{Place, among, free-here, has-among, inside-has, new-keeps, opens, pathAfter, placed-back, placed-goes, shut, Shut, Shut.folder-shut, Shut.root-shut}
+use Rattle.listing_layout.proofs.Parts.{Tried, Tried.ends, Tried.twin, given, given-none, has-given, has-there, size-given, tried}
+use Rattle.listing_layout.proofs.Fill.{fill, fill-keeps, Has, reach-append}
+use Rattle.listing_layout.proofs.Place.{Place, among, free-here, inside-has, new-keeps, opens, pathAfter, placed-back, placed-goes, shut, Shut, Shut.folder-shut, Shut.root-shut}
 
 -- s is neither q nor a folder below it
 abbrev Away : TreePath → TreePath → Type 0
@@ -73,8 +72,8 @@ module _ (p : Profile) (most : ℕ) (q : TreePath) where
       let b = both (lineDoes p most l (inside f s d)) _ (inside g q e) z in
       go (b .between) (b .first) (b .second) (does p most l f s d (b .between) (b .first)) (away ls)
     where
-      good : (h : Forest) (u : TreePath) (v : Said) → lineDoes p most l (inside f s d) ≡ goes (inside h u v) → Inside p most h u
-      good h u v z = subst (GoodStep p most) z (good-words p most (isText l) (words l) (inside f s d) t)
+      good : (x : State) → lineDoes p most l (inside f s d) ≡ goes x → GoodState p most x
+      good x z = good-line p most l (inside f s d) x t z
 
       go : (x : State) → lineDoes p most l (inside f s d) ≡ goes x → through p most ls x ≡ goes (inside g q e) → Does p d l
           → ((f : Forest) (s : TreePath) (d : Said) (g : Forest) (e : Said) → Inside p most f s → Present (reach p (folder f) (foldPath p q)) → Away q s
@@ -82,7 +81,7 @@ module _ (p : Profile) (most : ℕ) (q : TreePath) where
       go x first rest (setting v sets) ih =
           let z = sets most f s in
           let same : x ≡ inside f s v = cc in
-          ih f s v g e (good f s v z) there a (rw same at rest)
+          ih f s v g e (good (inside f s v) z) there a (rw same at rest)
       go x first rest (closing shuts) ih = closed-off (shut f s d)
         where
           closed-off : Shut f s d → ⊥
@@ -93,14 +92,14 @@ module _ (p : Profile) (most : ℕ) (q : TreePath) where
           closed-off (folder-shut some z) =
               let one = shuts most f s ∙ ap goes z in
               let same : x ≡ inside f (front s) d = cc in
-              ih f (front s) d g e (good f (front s) d one) there (away-front q s a some) (rw same at rest)
+              ih f (front s) d g e (good (inside f (front s) d) one) there (away-front q s a some) (rw same at rest)
       go x first rest (entering n y rule row puts) ih =
           let grown : Forest = fill p s (updateIn p n y (kids (reach p (folder f) (foldPath p s)))) f in
           let h = inside-has p most f s t in
           let P = placed-back h n y d x (sym (puts most f s) ∙ first) in
           let one = puts most f s ∙ placed-goes h n y d P ∙ ap goes (opens n y [] s grown d) in
           let same : x ≡ inside grown (pathAfter n y s) d = cc in
-          ih grown (pathAfter n y s) d g e (good grown (pathAfter n y s) d one) (still-there h n y row P q there) (away-after q n y s a (not-opened h n y row P q there)) (rw same at rest)
+          ih grown (pathAfter n y s) d g e (good (inside grown (pathAfter n y s) d) one) (still-there h n y row P q there) (away-after q n y s a (not-opened h n y row P q there)) (rw same at rest)
 
 no-more : (q r : TreePath) → q ++ r ≡ q → r ≡ []
 no-more q [] e = refl
@@ -138,8 +137,7 @@ module _ {p : Profile} {most : ℕ} {q : TreePath} {j f : Forest} (h : Has p q j
       go (closing shuts) = closed-off (shuts most) r refl
       go (entering n y rule row puts) =
           let g = inside-has p most k r t in
-          let real = has-below (has-given h k (g .sorted)) (has-among p j (has-sorted h) r _ k g) in
-          let P = place-back g a n (placed-back real n y d x (sym (puts most (given p q j f k) (q ++ r)) ∙ e)) in
+          let P = place-back g a n (placed-back (has-there h g) n y d x (sym (puts most (given p q j f k) (q ++ r)) ∙ e)) in
           goes-too _ (pathAfter n y r) d (puts most k r ∙ placed-goes g n y d P ∙ ap goes (opens n y [] r _ d))
 
   -- lines that end in the folder at q, begun there or below it, were they begun in an empty root
@@ -156,7 +154,7 @@ module _ {p : Profile} {most : ℕ} {q : TreePath} {j f : Forest} (h : Has p q j
       go (b .between) (b .first) (b .second) (line-back l k r d (b .between) t a (b .first)) (retried ls)
     where
       good : (x : State) → lineDoes p most l (inside (given p q j f k) (q ++ r) d) ≡ goes x → GoodState p most x
-      good x first = subst (GoodStep p most) first (good-words p most (isText l) (words l) (inside (given p q j f k) (q ++ r) d) real)
+      good x first = good-line p most l (inside (given p q j f k) (q ++ r) d) x real first
 
       gone : (x : State) → through p most ls x ≡ goes (inside g q e) → GoodState p most x → x ≡ close (given p q j f k) q d → Shut (given p q j f k) q d → ⊥
       gone x rest u c (root-shut v) = closed-stays p most ls (given p q j f k) (rw (c ∙ v) at rest)
@@ -175,7 +173,7 @@ module _ {p : Profile} {most : ℕ} {q : TreePath} {j f : Forest} (h : Has p q j
           again (twin o w y z W) =
               let one = W .back a x first in
               let trial = c ∙ ap goes z in
-              let next = ih o w y g e (subst (GoodStep p most) trial (good-words p most (isText l) (words l) (inside k r d) t)) (one .1) (subst (GoodState p most) (one .0) (good x first)) (rw (one .0) at rest) in
+              let next = ih o w y g e (good-line p most l (inside k r d) (inside o w y) t trial) (one .1) (subst (GoodState p most) (one .0) (good x first)) (rw (one .0) at rest) in
               (next .0, ap (λ (s : Step). andThen s (λ t. through p most ls t)) trial ∙ next .1)
 
 pub every-stretch-is-a-part : EveryStretchIsAPart
