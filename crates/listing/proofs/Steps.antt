@@ -140,7 +140,7 @@ module _ (p : Profile) (most n : ℕ) (r : List ℕ) (m : Name) (rule : NameRule
 pub front-last : (q : TreePath) (m : Name) → front (q ++ (m ∷ [])) ≡ q
 front-last q m = take-at q (m ∷ []) (length (q ++ (m ∷ [])) - 1) (omega (arith, length-append q (m ∷ [])))
 
-pub close-last : (f : Forest) (q : TreePath) (m : Name) (v : Said) → close f (q ++ (m ∷ [])) v ≡ inside f q v
+close-last : (f : Forest) (q : TreePath) (m : Name) (v : Said) → close f (q ++ (m ∷ [])) v ≡ inside f q v
 close-last f [] m v = refl
 close-last f (k ∷ q) m v = ap (λ (r : TreePath). inside f r v) (front-last (k ∷ q) m)
 

@@ -83,6 +83,9 @@ module _ (p : Profile) where
           go (one e) = rw (e, entry-same p m y hy (merge j s), add-same p m y s hy, or-there y (entry p (key p m) j) hy)
           go (two d) = rw (entry-other p m c d y hy (merge j s), add-other p c m y s hy d) ih
 
+  pub entry-there : (c : Name) (j k : Forest) → Present (entry p c k) → entry p c (merge j k) ≡ entry p c k
+  entry-there c j k h = entry-merge c j k ∙ or-there (entry p c k) (entry p c j) h
+
   -- no key of k is one of j
   abbrev pub Apart : Forest → Forest → Type 0
   Apart j k = (c : Name) → Present (entry p c k) → entry p c j ≡ absent

@@ -4,7 +4,7 @@ use mathlib.Core.List.{List, _++_, append-assoc}
 use native.Mathlib.Omega.{arith}
 use lib.ListN.{length, length-append}
 use Prim.Native.Nat.{ℕ, suc, _+_, _<_, _≤_}
-use Rattle.tree.specs.Forest.{Forest, Node, Node.absent, Node.file, Node.folder, TreePath, kids, size}
+use Rattle.tree.specs.Forest.{Forest, Node, Node.absent, Node.file, Node.folder, TreePath, Present, kids, size}
 use Rattle.tree.specs.Key.{entry, foldPath}
 use Rattle.tree.specs.declared.Profile.{Profile}
 use Rattle.tree.proofs.Folds.{reach}
@@ -59,12 +59,12 @@ module _ (p : Profile) (most : ℕ) (q : TreePath) (j f : Forest) (h : Has p q j
 
 -- no key is both one of k and one of l
 apart-both : (p : Profile) (j k l : Forest) → Apart p (merge p j k) l → Apart p l k
-apart-both p j k l a c u = go (entry p c l) refl
+apart-both p j k l a c u = go (entry p c l) (λ v. subst Present (free-both p c j k (a c v) .0) u)
   where
-    go : (z : Node) → entry p c l ≡ z → z ≡ absent
-    go absent v = refl
-    go (file b) v = absurd (rw (free-both p c j k (a c (rw v tt)) .0) at u)
-    go (folder i) v = absurd (rw (free-both p c j k (a c (rw v tt)) .0) at u)
+    go : (z : Node) → (Present z → ⊥) → z ≡ absent
+    go absent gone = refl
+    go (file b) gone = absurd (gone tt)
+    go (folder i) gone = absurd (gone tt)
 
 -- either may come first
 swap-parts : (p : Profile) (most : ℕ) (q : TreePath) (f : Forest) (d : Said) (x y : List ℕ) (k l : Forest) (e : Said) → Inside p most f q

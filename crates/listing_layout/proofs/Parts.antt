@@ -6,7 +6,7 @@ use native.Mathlib.Omega.{arith}
 use lib.ListN.{length, length-append, length-map}
 use Prim.Native.Nat.{ℕ, zero, suc, _+_, _<_, _≤_}
 use Rattle.tree.specs.Name.{Name}
-use Rattle.tree.specs.Forest.{Forest, Forest.end, Forest.leaf, Forest.dir, Node, Node.absent, Node.file, Node.folder, TreePath, Present, Sorted, kids, size}
+use Rattle.tree.specs.Forest.{Forest, Forest.end, Forest.leaf, Forest.dir, Node, Node.absent, Node.folder, TreePath, Present, Sorted, kids, size}
 use Rattle.tree.specs.Key.{entry, key, fold, foldPath, updateIn}
 use Rattle.tree.specs.declared.Profile.{Profile}
 use Rattle.tree.specs.Rules.{ContentRule, NameRule, Within}
@@ -23,9 +23,9 @@ use Rattle.listing_layout.proofs.Does.{Does, Does.setting, Does.closing
 use Rattle.listing_layout.proofs.Good.{good-line, good-through}
 use Rattle.listing_layout.proofs.Runs.{both}
 use Rattle.listing_layout.proofs.Siblings.{entry-same, sorted-updateIn}
-use Rattle.listing_layout.proofs.Merge.{Apart, entry-merge, merge, or-there, size-merge, sorted-merge}
+use Rattle.listing_layout.proofs.Merge.{Apart, entry-there, merge, size-merge, sorted-merge}
 use Rattle.listing_layout.proofs.Fill.{fill, Has, has-sorted, has-below, fill-below, fill-fill, fill-has, fill-keeps, fill-same, reach-append, size-fill}
-use Rattle.listing_layout.proofs.Place.{Place, among, apart-among, closes, fill-among, free-among, has-among, inside-has, new-among, new-keeps, opens, pathAfter, placed-back, placed-goes, shut, Shut, Shut.folder-shut, Shut.root-shut, size-placed}
+use Rattle.listing_layout.proofs.Place.{Place, among, apart-among, closes, fill-among, free-among, has-among, inside-has, new-among, new-keeps, opens, pathAfter, placed-back, placed-goes, reach-there, shut, Shut, Shut.folder-shut, Shut.root-shut, size-placed}
 
 -- l has all that k has
 pub record Grows (p : Profile) (k l : Forest) : Type 0 where
@@ -223,15 +223,10 @@ reach-deep p (suc n) (m ∷ c) x w u =
     let l = reach-deep p n c (entry p m (kids x)) (within-entry p NameRule ContentRule n m (kids x) (within-kids NameRule ContentRule (suc n) x w)) u in
     omega arith
 
-reach-there : (p : Profile) (c : TreePath) (x : Node) → Present (reach p x c) → Present x
-reach-there p c absent u = rw (reach-absent p c) at u
-reach-there p c (file b) u = tt
-reach-there p c (folder k) u = tt
-
 merge-keeps : (p : Profile) (j k : Forest) (c : TreePath) → Present (reach p (folder k) c) → Present (reach p (folder (merge p j k)) c)
 unfolding reach
 merge-keeps p j k [] u = tt
-merge-keeps p j k (m ∷ c) u = rw (entry-merge p m j k, or-there (entry p m k) (entry p m j) (reach-there p c (entry p m k) u)) u
+merge-keeps p j k (m ∷ c) u = rw (entry-there p m j k (reach-there p c (entry p m k) u)) u
 
 pub given-deep : {p : Profile} {most : ℕ} {q : TreePath} {j f : Forest} (h : Has p q j f) (k : Forest) → Sorted (fold p k) → Inside p most (given p q j f k) q → (c : TreePath)
     → Present (reach p (folder k) c) → length q + length c ≤ 16

@@ -1,11 +1,11 @@
 -- An entry placed in a folder whose entries are known, and a folder closed, below any path; and the open folder of a tree once other
 -- entries were merged with those of its root.
-use mathlib.Core.Path.{_≡_, refl, ap, sym, _∙_}
+use mathlib.Core.Path.{_≡_, refl, ap, sym, subst, _∙_}
 use mathlib.Core.List.{[], _∷_, _++_, append-assoc}
 use mathlib.Core.Bool.{Bool, true, false, cond}
 use native.Mathlib.Omega.{arith}
 use lib.Dec.{leb, ltb}
-use lib.ListN.{length, getD}
+use lib.ListN.{length, getD, length-append}
 use Prim.Native.Nat.{ℕ, suc, _+_, _-_, _<_}
 use borrow.Author.Tests.{lt-leb, lt-ltb, leb-false, ltb-true}
 use Rattle.tree.specs.Name.{Name}
@@ -20,9 +20,9 @@ use Rattle.listing.specs.Entries.{Said}
 use Rattle.listing.specs.Reading.{State, State.inside, State.closed, Step.stops, Step.goes, atKey, close, front, isAbsent, opened, placed}
 use Rattle.listing.proofs.Kept.{split-last}
 use Rattle.listing.proofs.Entered.{is-absent}
-use Rattle.listing.proofs.Steps.{close-last}
+use Rattle.listing.proofs.Steps.{front-last}
 use Rattle.listing_layout.proofs.Siblings.{Compared, Compared.one, Compared.two, compared, entry-other, entry-same}
-use Rattle.listing_layout.proofs.Merge.{Apart, entry-merge, free-both, merge, merge-free, merge-update, or-there, size-new, sorted-merge}
+use Rattle.listing_layout.proofs.Merge.{Apart, entry-there, free-both, merge, merge-free, merge-update, size-new, sorted-merge}
 use Rattle.listing_layout.proofs.Fill.{fill, Has, has-sorted, has-entry, fill-last, put-present, size-fill}
 
 folder-of : (p : Profile) (x : Node) → IsFolder (foldNode p x) → x ≡ folder (kids x)
@@ -86,11 +86,17 @@ pub shut : (f : Forest) (q : TreePath) (d : Said) → Shut f q d
 shut f [] d = root-shut refl
 shut f (n ∷ q) d = folder-shut (omega arith) refl
 
-pub closes : (q r : TreePath) → 0 < length r → (f : Forest) (d : Said) → close f (q ++ r) d ≡ inside f (q ++ front r) d
-closes q r some f d =
+pub front-below : (q r : TreePath) → 0 < length r → front (q ++ r) ≡ q ++ front r
+front-below q r some =
     let m : Name = getD r (length r - 1) [] in
-    ap (λ (u : TreePath). close f (q ++ u) d) (split-last r some) ∙ ap (λ (u : TreePath). close f u d) (sym (append-assoc q (front r) (m ∷ [])))
-    ∙ close-last f (q ++ front r) m d
+    ap (λ (u : TreePath). front (q ++ u)) (split-last r some) ∙ ap front (sym (append-assoc q (front r) (m ∷ []))) ∙ front-last (q ++ front r) m
+
+close-below : (f : Forest) (q : TreePath) (d : Said) → 0 < length q → close f q d ≡ inside f (front q) d
+close-below f [] d some = absurd (omega arith)
+close-below f (n ∷ q) d some = refl
+
+pub closes : (q r : TreePath) → 0 < length r → (f : Forest) (d : Said) → close f (q ++ r) d ≡ inside f (q ++ front r) d
+closes q r some f d = close-below f (q ++ r) d (omega (arith, length-append q r)) ∙ ap (λ (u : TreePath). inside f u d) (front-below q r some)
 
 -- an entry more, and what stood in the folder stands there still
 pub new-keeps : (p : Profile) (n : Name) (x : Node) (k : Forest) → Present x → entry p (key p n) k ≡ absent → (c : TreePath) → Present (reach p (folder k) c)
@@ -103,20 +109,18 @@ new-keeps p n x k h free (m ∷ c) there = go (compared m (key p n))
     go (one e) = absurd (rw (e, free, reach-absent p c) at there)
     go (two d) = rw (entry-other p n m d x h k) there
 
+-- what has something below it is there
+pub reach-there : (p : Profile) (c : TreePath) (x : Node) → Present (reach p x c) → Present x
+reach-there p c absent u = rw (reach-absent p c) at u
+reach-there p c (file b) u = tt
+reach-there p c (folder k) u = tt
+
 -- the entries of the open folder, once j was merged with the entries of the root
 abbrev pub among : Profile → Forest → TreePath → Forest → Forest
 among p j [] k = merge p j k
 among p j (m ∷ r) k = k
 
 module _ (p : Profile) (j : Forest) where
-  below-there : (m : Name) (r : TreePath) (f k : Forest) → reach p (entry p (key p m) f) r ≡ folder k → Present (entry p (key p m) f)
-  below-there m r f k e = go (entry p (key p m) f) refl
-    where
-      go : (x : Node) → entry p (key p m) f ≡ x → Present x
-      go absent z = let u = reach-absent p r in never (cc)
-      go (file c) z = tt
-      go (folder i) z = tt
-
   pub has-among : Sorted (fold p j) → (r : TreePath) (k f : Forest) → Has p r k f → Has p r (among p j r k) (merge p j f)
   unfolding reach
   has-among sj [] k f h =
@@ -124,15 +128,14 @@ module _ (p : Profile) (j : Forest) where
       let same : f ≡ k = cc in
       record { sorted = sorted-merge p j sj f (h .sorted); here = rw same }
   has-among sj (m ∷ r) k f h =
-      let same = entry-merge p (key p m) j f ∙ or-there (entry p (key p m) f) (entry p (key p m) j) (below-there m (foldPath p r) f k (h .here)) in
+      let same = entry-there p (key p m) j f (reach-there p (foldPath p r) _ (subst Present (sym (h .here)) tt)) in
       record { sorted = sorted-merge p j sj f (h .sorted); here = ap (λ (x : Node). reach p x (foldPath p r)) same ∙ h .here }
 
   pub fill-among : (r : TreePath) (k f i : Forest) → Has p r k f → fill p r (among p j r i) (merge p j f) ≡ merge p j (fill p r i f)
   unfolding reach putIn
   fill-among [] k f i h = refl
   fill-among (m ∷ r) k f i h =
-      let there = below-there m (foldPath p r) f k (h .here) in
-      rw (entry-merge p (key p m) j f, or-there (entry p (key p m) f) (entry p (key p m) j) there)
+      rw (entry-there p (key p m) j f (reach-there p (foldPath p r) _ (subst Present (sym (h .here)) tt)))
       (sym (merge-update p j m _ (put-present p r (folder i) (entry p (key p m) f) k tt (h .here)) f))
 
   pub new-among : (r : TreePath) (n : Name) (x : Node) (k : Forest) → Present x → among p j r (updateIn p n x k) ≡ updateIn p n x (among p j r k)
@@ -165,5 +168,5 @@ module _ (p : Profile) (j : Forest) where
       let same : f ≡ k = cc in
       apart-update n x k h (free-both p (key p n) j k free .1) (rw same at a)
   apart-among (m ∷ r) n x k f h H free a =
-      let there = below-there m (foldPath p r) f k (H .here) in
-      apart-update m _ f (put-present p r (folder (updateIn p n x k)) (entry p (key p m) f) k tt (H .here)) (a (key p m) there) a
+      apart-update m _ f (put-present p r (folder (updateIn p n x k)) (entry p (key p m) f) k tt (H .here))
+      (a (key p m) (reach-there p (foldPath p r) _ (subst Present (sym (H .here)) tt))) a

@@ -43,14 +43,14 @@ module _ (p : Profile) (n : Name) where
 
   pub entry-same : (x : Node) → Present x → (f : Forest) → entry p (key p n) (updateIn p n x f) ≡ x
   unfolding updateIn
-  entry-same x h = siblings-ind (λ (f : Forest). entry p (key p n) (updateIn p n x f) ≡ x) (rw (entry-add p (key p n) n x end h, cmp-refl (key p n))) more
+  entry-same x h = siblings-ind (λ (f : Forest). entry p (key p n) (updateIn p n x f) ≡ x) (add-same p n x end h) more
     where
       more : (m : Name) (y : Node) (s : Forest) → Present y → entry p (key p n) (updateIn p n x s) ≡ x → entry p (key p n) (updateIn p n x (add m y s)) ≡ x
       more m y s hy ih = rw (updateIn-add p n m x y s hy) (go (cmp (key p n) (key p m)) refl)
         where
           go : (w : Ordering) → cmp (key p n) (key p m) ≡ w
               → entry p (key p n) (byOrder w (add n x (add m y s)) (add m x s) (add m y (updateIn p n x s))) ≡ x
-          go Ordering·lt e = rw (entry-add p (key p n) n x (add m y s) h, cmp-refl (key p n))
+          go Ordering·lt e = add-same p n x (add m y s) h
           go Ordering·eq e = rw (entry-add p (key p n) m x s h, e)
           go Ordering·gt e = rw (entry-add p (key p n) m y (updateIn p n x s) hy, e) ih
 

@@ -25,16 +25,11 @@ use Rattle.listing_layout.proofs.Runs.{both}
 use Rattle.listing_layout.proofs.Merge.{Apart}
 use Rattle.listing_layout.proofs.Parts.{Tried, Tried.ends, Tried.twin, given, given-none, has-given, has-there, size-given, tried}
 use Rattle.listing_layout.proofs.Fill.{fill, fill-keeps, Has, reach-append}
-use Rattle.listing_layout.proofs.Place.{Place, among, free-here, inside-has, new-keeps, opens, pathAfter, placed-back, placed-goes, shut, Shut, Shut.folder-shut, Shut.root-shut}
+use Rattle.listing_layout.proofs.Place.{Place, among, free-here, front-below, inside-has, new-keeps, opens, pathAfter, placed-back, placed-goes, shut, Shut, Shut.folder-shut, Shut.root-shut}
 
 -- s is neither q nor a folder below it
 abbrev Away : TreePath → TreePath → Type 0
 Away q s = (r : TreePath) → s ≡ q ++ r → ⊥
-
-front-below : (q : TreePath) (m : Name) (r : TreePath) → front (q ++ (m ∷ r)) ≡ q ++ front (m ∷ r)
-front-below q m r =
-    let z : Name = getD (m ∷ r) (length (m ∷ r) - 1) [] in
-    ap (λ (u : TreePath). front (q ++ u)) (split-last (m ∷ r) (omega arith)) ∙ ap front (sym (append-assoc q (front (m ∷ r)) (z ∷ []))) ∙ front-last (q ++ front (m ∷ r)) z
 
 away-front : (q s : TreePath) → Away q s → 0 < length s → Away q (front s)
 away-front q s a some r e =
@@ -43,7 +38,7 @@ away-front q s a some r e =
 
 away-last : (q s : TreePath) (n : Name) → Away q s → (s ++ (n ∷ []) ≡ q → ⊥) → Away q (s ++ (n ∷ []))
 away-last q s n a other [] e = other (e ∙ append-nil q)
-away-last q s n a other (m ∷ r) e = a (front (m ∷ r)) (sym (front-last s n) ∙ ap front e ∙ front-below q m r)
+away-last q s n a other (m ∷ r) e = a (front (m ∷ r)) (sym (front-last s n) ∙ ap front e ∙ front-below q (m ∷ r) (omega arith))
 
 away-after : (q : TreePath) (n : Name) (x : Node) (s : TreePath) → Away q s → (s ++ (n ∷ []) ≡ q → ⊥) → Away q (pathAfter n x s)
 away-after q n absent s a other = a
