@@ -50,7 +50,7 @@
    MEMORY. A pointer comes with the number of words or bytes behind it. No pointer may be null, also where that number
    is 0, and each has the alignment of its type. Nothing that a call writes may overlap anything else that the call is
    given. Nothing is kept after a call, and nothing is allocated; a call may be made from any thread. Of stack,
-   kantifero_reconcile uses about 300 kB where every byte counts and 1.43 MB where letter case is ignored, kantifero_move 21 kB
+   kantifero_reconcile uses about 200 kB where every byte counts and 1.33 MB where letter case is ignored, kantifero_move 21 kB
    and 780 kB, and the others less than 3 kB. */
 #ifndef KANTIFERO_H
 #define KANTIFERO_H
@@ -69,29 +69,16 @@ extern "C" {
 /* The row number of an entry that a table does not have. */
 #define KANTIFERO_NO_ROW UINT32_C(4294967295)
 
-/* The two places of an entry that is no clash. */
-#define KANTIFERO_NO_PLACE UINT32_C(4294967295)
-
 /* Checks a table: numbers 1, 2 and 16, side 1. Accepted, the place is 0. */
 void kantifero_check(uint32_t profile, const uint32_t *table, size_t words, uint32_t answer[8]);
 
 /* Reconciles left and right by the archive, which is what both held when they last agreed.
 
    Accepted, each result stands at the start of its buffer, and what is past it is as it was: the new archive, the new
-   left and the new right are tables; the list has five words an entry, in preorder; tally has the counts of the entries
-   of kinds 1, 2 and 3. The answer's words 3 to 6 are the rows of the new archive, the new left and the new right, and the
-   entries of the list; its place is 0.
-
-     word 0         kind: 1 left gets, 2 right gets, 3 clash
-     words 1, 2     the entry's row in left, and in right, as they were given; KANTIFERO_NO_ROW where there is none
-     words 3, 4     of a clash, the place where left's subtree there begins to differ from the archive's, and the place
-                    where right's does; of an entry of another kind KANTIFERO_NO_PLACE, twice
-
-   A place counts the rows of a subtree in preorder, from 0 for its own row. It is that of the first row that differs in
-   depth, word 1, name or words 10 to 19; where one subtree is absent, or all its rows agree, it is the place where that one
-   ends. A spelling is no difference where letter case is ignored. The places of a clash are below 4,096.
-
-   A list of n entries fits in 5 n words or more, and never in fewer; odd words that are left over are as they were.
+   left and the new right are tables; the list has three words an entry, in preorder: 1 left gets, 2 right gets or
+   3 clash, then the entry's row in left and in right as they were given (KANTIFERO_NO_ROW where there is none); tally
+   has the counts of the entries of kinds 1, 2 and 3. The answer's words 3 to 6 are the rows of the new archive, the new
+   left and the new right, and the entries of the list; its place is 0.
 
    Where letter case is ignored, the new left has left's spelling of every path that left has, and right's of the others; the
    new right the other way round; the new archive has the archive's at and beneath a clash, and the new left's elsewhere.
@@ -116,7 +103,7 @@ void kantifero_move(uint32_t profile, const uint32_t *target, size_t target_word
                     size_t source_words, const uint32_t names[16][8], uint32_t depth, uint32_t *result,
                     size_t result_words, uint32_t answer[8]);
 
-/* Where the rows stand that a list entry carries, given the tables that were reconciled and the entry's first three words.
+/* Where the rows stand that a list entry carries, given the tables that were reconciled and the entry's three words.
 
    answer[0]: 0 no rows, 2 rows of left, 3 rows of right; answer[1]: first word; answer[2]: words
 

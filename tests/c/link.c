@@ -7,8 +7,6 @@
 #define CANARY UINT32_C(0xC0FFEE11)
 #define ROW 20
 #define ROOM 6 /* rows of a buffer, the canaries past it not counted */
-#define ENTRY 5
-#define LIST (2 * ENTRY) /* words of a list */
 
 static int failures;
 
@@ -63,7 +61,7 @@ static size_t tree(uint32_t *table, uint32_t first)
 /* All that a reconciliation is lent, with canaries past each part. */
 struct lent {
     uint32_t archive[ROOM * ROW + 1], left[ROOM * ROW + 1], right[ROOM * ROW + 1];
-    uint32_t list[LIST + 1], tally[4], answer[9];
+    uint32_t list[7], tally[4], answer[9];
 };
 
 static struct lent lent;
@@ -86,7 +84,7 @@ static void kept(const char *what, size_t archive, size_t left, size_t right, si
     painted(what, lent.archive + archive, ROOM * ROW + 1 - archive);
     painted(what, lent.left + left, ROOM * ROW + 1 - left);
     painted(what, lent.right + right, ROOM * ROW + 1 - right);
-    painted(what, lent.list + ENTRY * entries, LIST + 1 - ENTRY * entries);
+    painted(what, lent.list + 3 * entries, 7 - 3 * entries);
     painted(what, lent.tally + 3, 1);
     painted(what, lent.answer + 8, 1);
 }
@@ -96,66 +94,34 @@ static void try_reconcile(void)
     uint32_t none[2 * ROW], f[2 * ROW], g[2 * ROW];
     size_t n = tree(none, 0), m = tree(f, 0xF), k = tree(g, 0xA);
 
-    reconcile(none, n, f, m, none, n, LIST); /* C2 */
+    reconcile(none, n, f, m, none, n, 6); /* C2 */
     same("C2", lent.answer, (const uint32_t[8]){0, 0, 0, 2, 2, 2, 1, 0}, 8);
     same("C2 archive", lent.archive, f, m);
     same("C2 left", lent.left, f, m);
     same("C2 right", lent.right, f, m);
-    same("C2 list", lent.list, (const uint32_t[ENTRY]){2, 1, KANTIFERO_NO_ROW, KANTIFERO_NO_PLACE, KANTIFERO_NO_PLACE}, ENTRY);
+    same("C2 list", lent.list, (const uint32_t[3]){2, 1, KANTIFERO_NO_ROW}, 3);
     same("C2 tally", lent.tally, (const uint32_t[3]){0, 1, 0}, 3);
     kept("C2", m, m, m, 1);
 
-    reconcile(none, n, f, m, g, k, LIST); /* C4 */
+    reconcile(none, n, f, m, g, k, 6); /* C4 */
     same("C4", lent.answer, (const uint32_t[8]){0, 0, 0, 1, 2, 2, 1, 0}, 8);
     same("C4 archive", lent.archive, none, n);
     same("C4 left", lent.left, f, m);
     same("C4 right", lent.right, g, k);
-    same("C4 list", lent.list, (const uint32_t[ENTRY]){3, 1, 1, 0, 0}, ENTRY);
+    same("C4 list", lent.list, (const uint32_t[3]){3, 1, 1}, 3);
     same("C4 tally", lent.tally, (const uint32_t[3]){0, 0, 1}, 3);
     kept("C4", n, m, k, 1);
 
-    reconcile(none, n, f, m, g, k, ENTRY - 1); /* a list one word short */
+    reconcile(none, n, f, m, g, k, 2); /* a list one word short */
     answered("short list", lent.answer, 3, 4, 0);
     painted("short list tally", lent.tally, 3);
     kept("short list", 0, 0, 0, 0);
 
     g[ROW + 1] = 2;
-    reconcile(none, n, f, m, g, k, LIST);
+    reconcile(none, n, f, m, g, k, 6);
     answered("bad right", lent.answer, 2, 3, 1);
     painted("bad right tally", lent.tally, 3);
     kept("bad right", 0, 0, 0, 0);
-}
-
-/* The root, a folder p and in it a file x whose digest begins with a word. Gives the words. */
-static size_t folder(uint32_t *table, uint32_t first)
-{
-    memset(table, 0, 3 * ROW * sizeof *table);
-    table[ROW] = 1;
-    table[ROW + 2] = UINT32_C(0x70000000);
-    table[2 * ROW] = 2;
-    table[2 * ROW + 1] = 1;
-    table[2 * ROW + 2] = UINT32_C(0x78000000);
-    table[2 * ROW + 12] = first;
-    return 3 * ROW;
-}
-
-/* A clash on a folder, C8, and with left and right in each other's place; the list has odd words too. */
-static void try_places(void)
-{
-    uint32_t none[2 * ROW], f[3 * ROW], g[3 * ROW];
-    size_t n = tree(none, 0), m = folder(f, 0xF), k = folder(g, 0xA);
-
-    reconcile(f, m, none, n, g, k, LIST - 1);
-    same("C8", lent.answer, (const uint32_t[8]){0, 0, 0, 3, 1, 3, 1, 0}, 8);
-    same("C8 archive", lent.archive, f, m);
-    same("C8 list", lent.list, (const uint32_t[ENTRY]){3, KANTIFERO_NO_ROW, 1, 0, 1}, ENTRY);
-    same("C8 tally", lent.tally, (const uint32_t[3]){0, 0, 1}, 3);
-    kept("C8", m, n, k, 1);
-
-    reconcile(f, m, g, k, none, n, ENTRY);
-    same("C8 turned", lent.answer, (const uint32_t[8]){0, 0, 0, 3, 3, 1, 1, 0}, 8);
-    same("C8 turned list", lent.list, (const uint32_t[ENTRY]){3, 1, KANTIFERO_NO_ROW, 1, 0}, ENTRY);
-    kept("C8 turned", m, k, n, 1);
 }
 
 static void try_check(void)
@@ -267,14 +233,14 @@ static void try_folded(void)
 
     g[ROW + 2] = UINT32_C(0x50000000);
     for (uint32_t profile = KANTIFERO_FOLDED; profile != 0; profile *= 2) {
-        reconcile_in(profile, none, n, f, m, g, k, LIST);
+        reconcile_in(profile, none, n, f, m, g, k, 6);
         same("folded", lent.answer, (const uint32_t[8]){0, 0, 0, 2, 2, 2, 0, 0}, 8);
         same("folded archive", lent.archive, f, m);
         same("folded left", lent.left, f, m);
         same("folded right", lent.right, g, k);
         kept("folded", m, m, k, 0);
     }
-    reconcile(none, n, f, m, g, k, LIST);
+    reconcile(none, n, f, m, g, k, 6);
     same("not folded", lent.answer, (const uint32_t[8]){0, 0, 0, 3, 3, 3, 2, 0}, 8);
 }
 
@@ -282,7 +248,6 @@ int main(void)
 {
     try_check();
     try_reconcile();
-    try_places();
     try_move();
     try_carried();
     try_write();

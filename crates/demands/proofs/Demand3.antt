@@ -1,10 +1,11 @@
 -- DEMAND 3 over calls: for all words, all rooms, any choice of the listed moves in any order, each accepted, in either profile.
-use mathlib.Core.Path.{◌≡◌, ap, ◌∙◌}
+use mathlib.Core.Path.{◌≡◌, ap, ap₂, ◌∙◌}
 use mathlib.Core.List.{List, [], ◌∷◌, map}
 use mathlib.Core.Bool.{Bool, true, false}
 use native.Mathlib.Omega.{arith}
 use lib.ListN.{length}
 use Prim.Native.Nat.{ℕ, suc, ◌≤◌}
+use Rattle.tree.specs.Forest.{Forest}
 use Rattle.tree.specs.Rules.{Words32}
 use Rattle.tree.specs.declared.Profile.{Profile}
 use Rattle.tree.specs.Key.{fold}
@@ -17,10 +18,9 @@ use Rattle.table_rules.specs.Answer.{is_accepted}
 use Rattle.plan.specs.Items.{list_words}
 use Rattle.plan_run.specs.Run.{given, Lent, run_due, run_of}
 use Rattle.tree.proofs.Folds.{size-fold}
-use Rattle.settle.proofs.Begins.{resumes-places-in, closes-places-in, places-within}
 use Rattle.settle.proofs.Spelled.{resumes_in, finishes_in, closes_in, formed-left, formed-right, formed-archive}
 use Rattle.plan_run.proofs.Accepted.{Room, Passed, passed, accepted}
-use Rattle.demands.specs.Demand3.{others, AsMuch, Beginning, Reruns, Finishing, Closing}
+use Rattle.demands.specs.Demand3.{others, AsMuch, Reruns, Finishing, Closing}
 use Rattle.demands.proofs.Tab.{Tab, tab-tree, tab-passes, passes-tab, formed-tab}
 use Rattle.demands.proofs.Made.{carried-all}
 
@@ -101,19 +101,11 @@ module _ (p : Profile) (o l r : List ℕ) (b : Lent) (wo : Words32 o) (wl : Word
       record {
         accepted = rw due;
         lines = ap (λ (x : Outcome). x.lines) same;
-        list = rw due (ap (λ (x : Outcome). over c.list (list_words (fold p (tree_of o)) (fold p (tree_of t.left)) (fold p (tree_of t.right)) x.lines)) same);
-        places = rw (tab-tree p t.left _ B.left, tab-tree p t.right _ B.right)
-            (resumes-places-in p (tree_of o) (tree_of l) (tree_of r) to.formed.sorted tl.formed.sorted tr.formed.sorted ms chosen);
+        list = rw due (ap (λ (x : Outcome). over c.list (list_words (fold p (tree_of t.left)) (fold p (tree_of t.right)) x.lines)) same);
         archive = record { tree = v.archive; words = rw due; same = ap (λ (x : Outcome). x.archive) same };
         left = record { tree = v.left; words = rw due; same = ap (λ (x : Outcome). x.left) same };
         right = record { tree = v.right; words = rw due; same = ap (λ (x : Outcome). x.right) same };
       }
-
-  -- a table of 4,096 rows at most has fewer entries
-  pub beginning : Beginning p o l r
-  beginning q h =
-      let w = places-within (fold p (tree_of o)) (fold p (tree_of l)) (fold p (tree_of r)) q h in
-      (omega (arith, w.0, size-fold p (tree_of l), tl.rows), omega (arith, w.1, size-fold p (tree_of r), tr.rows))
 
   pub finishing : Finishing p o l r
   finishing ms t chosen carried all =
@@ -146,9 +138,9 @@ module _ (p : Profile) (o l r : List ℕ) (b : Lent) (wo : Words32 o) (wl : Word
         accepted = rw due;
         lines = ap (λ (x : Outcome). x.lines) same;
         list = rw due
-            (ap (λ (x : Outcome). over c.list (list_words (fold p (tree_of (table u.archive))) (fold p (tree_of (table u.left))) (fold p (tree_of (table u.right))) x.lines)) same
-            ∙ rw (tab-tree p (table u.archive) u.archive ta, tab-tree p (table u.left) u.left tb, tab-tree p (table u.right) u.right tc));
-        places = closes-places-in p (tree_of o) (tree_of l) (tree_of r) to.formed.sorted tl.formed.sorted tr.formed.sorted;
+            (ap (λ (x : Outcome). over c.list (list_words (fold p (tree_of (table u.left))) (fold p (tree_of (table u.right))) x.lines)) same
+            ∙ ap₂ (λ (x y : Forest). over c.list (list_words (fold p x) (fold p y) (keep is_clash u.lines))) (tab-tree p (table u.left) u.left tb)
+            (tab-tree p (table u.right) u.right tc));
         archive = record { tree = v.archive; words = rw due; same = ap (λ (x : Outcome). x.archive) same };
         left = record { tree = v.left; words = rw due; same = ap (λ (x : Outcome). x.left) same };
         right = record { tree = v.right; words = rw due; same = ap (λ (x : Outcome). x.right) same };

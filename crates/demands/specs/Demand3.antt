@@ -1,16 +1,15 @@
 -- Demand 3 over calls: listed moves carried out by accepted calls, in any order; then a run with the old archive; the
 -- tables after all the moves; and the run on the results. All are made in the first run's profile, and trees are read as equal
 -- when they are equal after folding.
-use Rattle.std.specs.Prelude.{◌≡◌, List, [], ◌∷◌, map, true, length, take, ℕ, ◌*◌, ◌≤◌, ◌<◌}
+use Rattle.std.specs.Prelude.{◌≡◌, List, [], ◌∷◌, map, true, length, take, ℕ, ◌*◌, ◌≤◌}
 use Rattle.tree.specs.Name.{Name}
 use Rattle.tree.specs.Forest.{TreePath, Forest}
 use Rattle.tree.specs.declared.Profile.{Profile}
 use Rattle.tree.specs.Key.{fold}
 use Rattle.settle.specs.Decision.{Decision.agreed, Decision.left_gets, Decision.right_gets, Decision.clash}
 use Rattle.settle.specs.Results.{Line, Line.line, Lines}
-use Rattle.settle.specs.Begins.{places_in}
-use Rattle.settle.specs.Resume.{In, keep, is_clash, minus, Chosen}
-use Rattle.settle.specs.Spelled.{fold_line, fold_places}
+use Rattle.settle.specs.Resume.{keep, is_clash, minus, Chosen}
+use Rattle.settle.specs.Spelled.{fold_line}
 use Rattle.table_row.specs.Buffer.{over}
 use Rattle.table_row.specs.Tree.{table, tree_of}
 use Rattle.table_rules.specs.Answer.{place_of, is_accepted}
@@ -73,20 +72,12 @@ pub record AsMuch (b c : Lent) : Type 0 where
   pub right : length b.right ≤ length c.right
   pub list : length b.list ≤ length c.list
 
--- both places of every clash are below 4,096
-abbrev pub Beginning : Profile → List ℕ → List ℕ → List ℕ → Type 0
-Beginning p o l r =
-    (q : TreePath) → In (line q clash) (given p o l r).lines
-    → let b = places_in (fold p (tree_of o)) (fold p (tree_of l)) (fold p (tree_of r)) (line q clash) in (b.left < 4096) × (b.right < 4096)
-
 -- a run with the old archive o on the tables t, after the moves ms of the run on l and r
 pub record Rerun (p : Profile) (o l r : List ℕ) (ms : Lines) (t : Tables) (c : Lent) : Type 0 where
   pub accepted : is_accepted (run_due p o t.left t.right c) ≡ true
   -- exactly the moves not made and the same clashes, by path and kind
   pub lines : (given p o t.left t.right).lines ≡ others p ms o l r
-  pub list : (run_of p o t.left t.right c).lent.list ≡ over c.list (list_words (fold p (tree_of o)) (fold p (tree_of t.left)) (fold p (tree_of t.right)) (others p ms o l r))
-  -- the clashes begin where they did
-  pub places : fold_places p (tree_of o) (tree_of t.left) (tree_of t.right) (others p ms o l r) ≡ fold_places p (tree_of o) (tree_of l) (tree_of r) (others p ms o l r)
+  pub list : (run_of p o t.left t.right c).lent.list ≡ over c.list (list_words (fold p (tree_of t.left)) (fold p (tree_of t.right)) (others p ms o l r))
   -- the same three trees
   pub archive : Holds p (given p o l r).archive c.archive (run_of p o t.left t.right c).lent.archive
   pub left : Holds p (given p o l r).left c.left (run_of p o t.left t.right c).lent.left
@@ -112,11 +103,7 @@ pub record Closing (p : Profile) (o l r : List ℕ) (c : Lent) : Type 0 where
   pub lines : (given p (table (given p o l r).archive) (table (given p o l r).left) (table (given p o l r).right)).lines ≡ keep is_clash (given p o l r).lines
   pub list :
       (run_of p (table (given p o l r).archive) (table (given p o l r).left) (table (given p o l r).right) c).lent.list
-      ≡ over c.list (list_words (fold p (given p o l r).archive) (fold p (given p o l r).left) (fold p (given p o l r).right) (keep is_clash (given p o l r).lines))
-  -- they begin where they did
-  pub places :
-      fold_places p (given p o l r).archive (given p o l r).left (given p o l r).right (keep is_clash (given p o l r).lines)
-      ≡ fold_places p (tree_of o) (tree_of l) (tree_of r) (keep is_clash (given p o l r).lines)
+      ≡ over c.list (list_words (fold p (given p o l r).left) (fold p (given p o l r).right) (keep is_clash (given p o l r).lines))
   -- its inputs back
   pub archive :
       Holds p (given p o l r).archive c.archive

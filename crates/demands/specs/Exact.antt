@@ -4,7 +4,6 @@ use Rattle.tree.specs.Forest.{Forest, Sorted}
 use Rattle.tree.specs.Value.{path_map}
 use Rattle.tree.specs.declared.Profile.TheVariants.{Exact}
 use Rattle.settle.specs.Results.{Lines, Outcome, outcome}
-use Rattle.settle.specs.Begins.{places}
 use Rattle.settle.specs.Resume.{keep, is_clash, minus, Chosen}
 use Rattle.settle.specs.Tr507.{Synchronization}
 use Rattle.settle.specs.Archive.{Remembers}
@@ -32,12 +31,11 @@ pub record Demand2Exact (o l r : List ℕ) (b : Lent) : Type 0 where
       → Synchronization (path_map (tree_of o)) (path_map (tree_of l)) (path_map (tree_of r)) (path_map c') (path_map d') → (c' ≡ c) × (d' ≡ d)
   pub only-archive : (n' : Forest) → Sorted n' → Remembers (path_map (tree_of o)) (path_map (tree_of l)) (path_map (tree_of r)) (path_map n') → n' ≡ n
 
--- the run with the old archive: the lines not carried out, with their places, and the same three tables
+-- the run with the old archive: the lines not carried out, and the same three tables
 pub record RerunExact (o l r : List ℕ) (ms : Lines) (t : Tables) (c : Lent) : Type 0 where
   pub accepted : is_accepted (run_due Exact o t.left t.right c) ≡ true
   pub lines : (plain o t.left t.right).lines ≡ minus ms (plain o l r).lines
-  pub list : (run_of Exact o t.left t.right c).lent.list ≡ over c.list (list_words (tree_of o) (tree_of t.left) (tree_of t.right) (minus ms (plain o l r).lines))
-  pub places : places (tree_of o) (tree_of t.left) (tree_of t.right) (minus ms (plain o l r).lines) ≡ places (tree_of o) (tree_of l) (tree_of r) (minus ms (plain o l r).lines)
+  pub list : (run_of Exact o t.left t.right c).lent.list ≡ over c.list (list_words (tree_of t.left) (tree_of t.right) (minus ms (plain o l r).lines))
   pub archive : (run_of Exact o t.left t.right c).lent.archive ≡ over c.archive (table (plain o l r).archive)
   pub left : (run_of Exact o t.left t.right c).lent.left ≡ over c.left (table (plain o l r).left)
   pub right : (run_of Exact o t.left t.right c).lent.right ≡ over c.right (table (plain o l r).right)
@@ -56,16 +54,13 @@ FinishingExact o l r =
     (ms : Lines) (t : Tables) → Chosen ms (plain o l r).lines → AllCarried Exact ms (record { left = l; right = r }) t
     → minus ms (plain o l r).lines ≡ keep is_clash (plain o l r).lines → FinishedExact o l r t
 
--- the run on the results: the clashes alone, with their places, and its inputs back
+-- the run on the results: the clashes alone, and its inputs back
 pub record ClosingExact (o l r : List ℕ) (c : Lent) : Type 0 where
   pub accepted : is_accepted (run_due Exact (table (plain o l r).archive) (table (plain o l r).left) (table (plain o l r).right) c) ≡ true
   pub lines : (plain (table (plain o l r).archive) (table (plain o l r).left) (table (plain o l r).right)).lines ≡ keep is_clash (plain o l r).lines
   pub list :
       (run_of Exact (table (plain o l r).archive) (table (plain o l r).left) (table (plain o l r).right) c).lent.list
-      ≡ over c.list (list_words (plain o l r).archive (plain o l r).left (plain o l r).right (keep is_clash (plain o l r).lines))
-  pub places :
-      places (plain o l r).archive (plain o l r).left (plain o l r).right (keep is_clash (plain o l r).lines)
-      ≡ places (tree_of o) (tree_of l) (tree_of r) (keep is_clash (plain o l r).lines)
+      ≡ over c.list (list_words (plain o l r).left (plain o l r).right (keep is_clash (plain o l r).lines))
   pub archive :
       (run_of Exact (table (plain o l r).archive) (table (plain o l r).left) (table (plain o l r).right) c).lent.archive ≡ over c.archive (table (plain o l r).archive)
   pub left : (run_of Exact (table (plain o l r).archive) (table (plain o l r).left) (table (plain o l r).right) c).lent.left ≡ over c.left (table (plain o l r).left)

@@ -52,7 +52,7 @@ module _ (p : Profile) (o l r : List ℕ) (b : Lent) where
       first-place 4096 (unless (room_rule n.left (length b.left)) 3 2) _ _ (unless-place (room_rule n.left (length b.left)) 3 2)
       (λ y.
       last-place 4096 (unless (room_rule n.right (length b.right)) 3 3) _ (unless-place (room_rule n.right (length b.right)) 3 3)
-      (λ z. unless-place (leb n.list (length b.list / 5)) 3 4))))
+      (λ z. unless-place (leb n.list (length b.list / 3)) 3 4))))
 
   module _ (so : (k : ℕ) → Fits w32 (get_or o k 0)) (sl : (k : ℕ) → Fits w32 (get_or l k 0)) (sr : (k : ℕ) → Fits w32 (get_or r k 0)) where
     sorted : (w : List ℕ) → Passes p w → ((k : ℕ) → Fits w32 (get_or w k 0)) → Sorted (fold p (tree_of w))

@@ -21,7 +21,7 @@ use Rattle.listing.specs.Accepted.{GoodState, GoodStep, Inside, IsFolder}
 use Rattle.listing.specs.Bytes.{text}
 use Rattle.listing.specs.Words.{Words, values}
 use Rattle.listing.specs.Values.{content_of, digest_of, is_digest, is_size, size_of}
-use Rattle.listing.specs.Entries.{Entry, Entry.faulty, Entry.holds, Said, Said.is_dir, Said.is_file, Said.is_other, Said.none, Said.twice, entry_as, one_each-good, root_as, type_in}
+use Rattle.listing.specs.Entries.{Entry, Entry.faulty, Entry.holds, Said, Said.is_dir, Said.is_file, Said.is_other, Said.none, Said.twice, entry_as, one_each, root_as, type_in}
 use Rattle.listing.specs.Reading.{State, State.before, State.closed, State.inside, Step, Step.goes, Step.stops, at_key, close, close_line, front, is_empty, rooted, root_line, set_line, set_to, slash_line, unset_line, with_default}
 use Rattle.listing.proofs.Parent.{folder-above}
 use Rattle.listing.proofs.Ruled.{content-rule}
@@ -33,7 +33,7 @@ GoodEntry (holds absent) = ⊥
 GoodEntry (holds (file c)) = ContentRule c
 GoodEntry (holds (folder k)) = k ≡ end
 
-one_each-good : (ss ds : Words) → GoodEntry (one_each-good ss ds)
+one_each-good : (ss ds : Words) → GoodEntry (one_each ss ds)
 one_each-good [] ds = tt
 one_each-good (s ∷ []) [] = tt
 one_each-good (s ∷ []) (d ∷ []) = go (is_size s && is_digest d) refl

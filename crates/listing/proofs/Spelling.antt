@@ -12,7 +12,7 @@ use Rattle.tree.specs.Rules.{NameRule, Words32, bytes, good_name, zero_filled, z
 use Rattle.tree.proofs.Same.{and-true}
 use Rattle.tree.proofs.Rules.{length-bytes}
 use Rattle.listing.specs.Bytes.{among, class_of, digit_value}
-use Rattle.listing.specs.Names.{decode, decode_from, is_name-text, name_of, octal, packed}
+use Rattle.listing.specs.Names.{decode, decode_from, is_name, name_of, octal, packed}
 use Rattle.listing.specs.Writing.{as_it_is, name_text, spell, spell_byte}
 use Rattle.listing.specs.declared.Class.{Class}
 use Rattle.listing.specs.declared.Class.TheVariants.{Plain, Escape, Blank, LineEnd, Hash, Mark, Refused}
@@ -193,8 +193,8 @@ module _ (n : Name) (rule : NameRule n) where
   pub name_back : name_of (name_text n) ≡ n
   name_back = ap packed decoded ∙ packed-same (up_to (bytes n)) (bytes n) (up-to-at (bytes n) filled) ∙ packed-bytes n rule.eight rule.small
 
-  pub is_name-text : is_name-text (name_text n) ≡ true
-  unfolding is_name-text
+  pub is_name-text : is_name (name_text n) ≡ true
+  unfolding is_name
   is_name-text =
       let h : length (up_to (bytes n)) ≤ 32 = omega (arith, up-to-length (bytes n), length-bytes n, rule.eight) in
       rw (decoded, no_zero (bytes n), le-leb _ 32 h, ← decoded, name_back, rule.good)

@@ -21,7 +21,7 @@ use Rattle.listing.specs.Lines.{begin_of, len_in, lines_from}
 use Rattle.listing.specs.Words.{Words, is_text, key_len, span, values, words_from}
 use Rattle.listing.specs.Names.{decode_from, is_name, name_of, packed}
 use Rattle.listing.specs.Entries.{Entry.holds, Said, Said.none, entry_of, type_in}
-use Rattle.listing.specs.Reading.{State, State.before, State.closed, State.inside, Step.goes, at_key, close, close_line, entered, entry_line, front, line_does, opened, placed, root_line-runs, run, words_do}
+use Rattle.listing.specs.Reading.{State, State.before, State.closed, State.inside, Step.goes, at_key, close, close_line, entered, entry_line, front, line_does, opened, placed, root_line, run, words_do}
 use Rattle.listing.specs.Writing.{digest_text, dir_line, file_line, name_text, size_text}
 use Rattle.listing.proofs.Digits.{Back, all_plain, content-back}
 use Rattle.listing.proofs.Solid.{AllSolid, AllSolid.more, AllSolid.none, Solid, len-done, solid-plain, tail_of}
@@ -153,7 +153,7 @@ unfolding words_do close_line same_words cmp
 close-word p most f q v = refl
 
 root-word : (p : Profile) (most : ℕ) → 0 < most → words_do p most true (text "." ∷ text "type=dir" ∷ []) (before none) ≡ goes (inside end [] none)
-unfolding words_do root_line-runs type_in values key_len same_words cmp
+unfolding words_do root_line type_in values key_len same_words cmp
 root-word p most h = rw (lt-ltb 0 most h)
 
 module _ (p : Profile) (most n : ℕ) (r : List ℕ) where

@@ -18,7 +18,7 @@ use Rattle.listing.specs.declared.Mode.{Mode}
 use Rattle.listing.specs.declared.Mode.TheVariants.{Lead, LeadBack, Body, BodyBack, Comment, Done}
 use Rattle.listing.proofs.Solid.{len-done}
 use Rattle.listing_scan.specs.Places.{line_ends}
-use Rattle.listing_layout.specs.Whole.{whole_from-append, whole, bytes_of, pieces}
+use Rattle.listing_layout.specs.Whole.{whole_from, whole, bytes_of, pieces}
 
 is-done : (m : Mode) → is_done m ≡ true → m ≡ Done
 is-done Done e = refl
@@ -30,13 +30,13 @@ is-done Comment e = absurd (false≢true e)
 
 -- what comes after a line that has ended does not change it
 module _ (b : List ℕ) where
-  len_whole : (m : Mode) (a : List ℕ) → whole_from-append m a ≡ true → len_in m (a ++ b) ≡ len_in m a
-  unfolding len_in whole_from-append
+  len_whole : (m : Mode) (a : List ℕ) → whole_from m a ≡ true → len_in m (a ++ b) ≡ len_in m a
+  unfolding len_in whole_from
   len_whole m [] h = rw (is-done m h) (len-done b)
   len_whole m (x ∷ a) h = go (is_done m) h (len_whole (step_of m (class_of x)) a)
     where
-      go : (t : Bool) → whole_from-append (step_of (cond t Lead m) (class_of x)) a ≡ true
-          → (whole_from-append (step_of m (class_of x)) a ≡ true → len_in (step_of m (class_of x)) (a ++ b) ≡ len_in (step_of m (class_of x)) a)
+      go : (t : Bool) → whole_from (step_of (cond t Lead m) (class_of x)) a ≡ true
+          → (whole_from (step_of m (class_of x)) a ≡ true → len_in (step_of m (class_of x)) (a ++ b) ≡ len_in (step_of m (class_of x)) a)
           → cond t 0 (suc (len_in (step_of m (class_of x)) (a ++ b))) ≡ cond t 0 (suc (len_in (step_of m (class_of x)) a))
       go true q ih = refl
       go false q ih = ap suc (ih q)
@@ -59,14 +59,14 @@ next-ends n x a = go (eqb x 10)
     go true = omega arith
     go false = refl
 
-lines-from : (n : ℕ) (m : Mode) (a b : List ℕ) → whole_from-append m a ≡ true
+lines-from : (n : ℕ) (m : Mode) (a b : List ℕ) → whole_from m a ≡ true
     → lines_from n (len_in m a) (a ++ b) ≡ lines_from n (len_in m a) a ++ lines_from (n + line_ends a) 0 b
-unfolding len_in whole_from-append lines_from
+unfolding len_in whole_from lines_from
 lines-from n m [] b h = unfold line_ends in rw (add-zero n)
 lines-from n m (x ∷ a) b h = rw (next-ends n x a) (go (is_done m) h (λ k. lines-from (next n x) k a b))
   where
-    go : (t : Bool) → whole_from-append (step_of (cond t Lead m) (class_of x)) a ≡ true
-        → ((k : Mode) → whole_from-append k a ≡ true → lines_from (next n x) (len_in k a) (a ++ b) ≡ lines_from (next n x) (len_in k a) a ++ lines_from (next n x + line_ends a) 0 b)
+    go : (t : Bool) → whole_from (step_of (cond t Lead m) (class_of x)) a ≡ true
+        → ((k : Mode) → whole_from k a ≡ true → lines_from (next n x) (len_in k a) (a ++ b) ≡ lines_from (next n x) (len_in k a) a ++ lines_from (next n x + line_ends a) 0 b)
         → lines_from n (cond t 0 (suc (len_in (step_of m (class_of x)) a))) (x ∷ a ++ b)
         ≡ lines_from n (cond t 0 (suc (len_in (step_of m (class_of x)) a))) (x ∷ a) ++ lines_from (next n x + line_ends a) 0 b
     go true q ih = rw (len_whole b (begin_of (class_of x)) a q, take_len b (begin_of (class_of x)) a, ih (begin_of (class_of x)) q)
@@ -138,8 +138,8 @@ last-10 m x e = line-end-10 x (go (is_done m) refl e)
     go true d q = step-done Lead (class_of x) refl q
     go false d q = step-done m (class_of x) d q
 
-ends-from : (m : Mode) (a : List ℕ) → whole_from-append m a ≡ true → ends_in_lf a ≡ true
-unfolding whole_from-append
+ends-from : (m : Mode) (a : List ℕ) → whole_from m a ≡ true → ends_in_lf a ≡ true
+unfolding whole_from
 ends-from m [] h = refl
 ends-from m (x ∷ []) h = last-10 m x h
 ends-from m (x ∷ y ∷ a) h =
@@ -148,8 +148,8 @@ ends-from m (x ∷ y ∷ a) h =
     rw e (rw k at (ends-from (step_of (cond (is_done m) Lead m) (class_of x)) (y ∷ a) h))
 
 -- a line that has begun has an LF yet to come
-some_end : (m : Mode) (a : List ℕ) → is_done m ≡ false → whole_from-append m a ≡ true → 0 < line_ends a
-unfolding whole_from-append line_ends
+some_end : (m : Mode) (a : List ℕ) → is_done m ≡ false → whole_from m a ≡ true → 0 < line_ends a
+unfolding whole_from line_ends
 some_end m [] d h = absurd (false≢true (sym d ∙ h))
 some_end m (x ∷ a) d h =
     go (is_done (step_of (cond (is_done m) Lead m) (class_of x))) refl (eqb x 10) refl (λ q. some_end (step_of (cond (is_done m) Lead m) (class_of x)) a q h)
@@ -165,13 +165,13 @@ unfoldable pub Upto : ℕ → List Line → Type 0
 Upto k [] = Unit {0}
 Upto k (l ∷ ls) = (l.number ≤ k) × Upto k ls
 
-upto_from : (n k : ℕ) (m : Mode) (a : List ℕ) → whole_from-append m a ≡ true → n + line_ends a ≤ suc k → Upto k (lines_from n (len_in m a) a)
-unfolding len_in whole_from-append lines_from Upto
+upto_from : (n k : ℕ) (m : Mode) (a : List ℕ) → whole_from m a ≡ true → n + line_ends a ≤ suc k → Upto k (lines_from n (len_in m a) a)
+unfolding len_in whole_from lines_from Upto
 upto_from n k m [] h r = tt
 upto_from n k m (x ∷ a) h r = go (is_done m) h (λ j q. upto_from (next n x) k j a q (rw (next-ends n x a) at r))
   where
-    go : (t : Bool) → whole_from-append (step_of (cond t Lead m) (class_of x)) a ≡ true
-        → ((j : Mode) → whole_from-append j a ≡ true → Upto k (lines_from (next n x) (len_in j a) a))
+    go : (t : Bool) → whole_from (step_of (cond t Lead m) (class_of x)) a ≡ true
+        → ((j : Mode) → whole_from j a ≡ true → Upto k (lines_from (next n x) (len_in j a) a))
         → Upto k (lines_from n (cond t 0 (suc (len_in (step_of m (class_of x)) a))) (x ∷ a))
     go true q ih = let s = some_end Lead (x ∷ a) refl q in (omega arith, ih (begin_of (class_of x)) q)
     go false q ih = ih (step_of m (class_of x)) q
@@ -179,8 +179,8 @@ upto_from n k m (x ∷ a) h r = go (is_done m) h (λ j q. upto_from (next n x) k
 pub numbers-upto : (n k : ℕ) (a : List ℕ) → whole a ≡ true → n + line_ends a ≤ suc k → Upto k (lines_from n 0 a)
 numbers-upto n k a h r = rw (len-done a) at (upto_from n k Done a h r)
 
-whole_from-append : (m : Mode) (a b : List ℕ) → whole_from-append m a ≡ true → whole b ≡ true → whole_from-append m (a ++ b) ≡ true
-unfolding whole_from-append
+whole_from-append : (m : Mode) (a b : List ℕ) → whole_from m a ≡ true → whole b ≡ true → whole_from m (a ++ b) ≡ true
+unfolding whole_from
 whole_from-append m [] b h q = rw (is-done m h) q
 whole_from-append m (x ∷ a) b h q = whole_from-append (step_of (cond (is_done m) Lead m) (class_of x)) a b h q
 

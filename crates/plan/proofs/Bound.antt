@@ -1,4 +1,4 @@
--- A plan has at most as many items as the three trees have entries, so 12,285 at most, six words each; and a result has
+-- A plan has at most as many items as the three trees have entries, so 12,285 at most, four words each; and a result has
 -- at most as many entries.
 use mathlib.Core.Path.{◌≡◌, refl, sym}
 use mathlib.Core.List.{[], ◌∷◌, ◌++◌}
@@ -16,7 +16,7 @@ use Rattle.tree.proofs.Never.{never}
 use Rattle.tree.proofs.Size.{size-add, row_count}
 use Rattle.tree.proofs.Same.{both_true}
 use Rattle.settle.proofs.Merge.{first, skip, sorted-skip, plan-step, plan-end}
-use Rattle.plan.specs.Items.{items, words_of, item_words, plan_words, list_words}
+use Rattle.plan.specs.Items.{items, words_of, item_words, plan_words}
 use Rattle.plan.proofs.Least.{Key, Key.named, Key.last, key, LeastOf, least_key, least-of, least-key}
 use Rattle.plan.proofs.OneTable.{is_fold}
 use Rattle.plan.proofs.Keys.{key-last, up-last, key-first, size_none, sorted-inside, key_has, size-skip, some-rows, settle-pair, settle-alone}
@@ -137,23 +137,17 @@ pub result-bound : (pk : Decision → Node → Node → Node → Node) → Takes
 result-bound pk T o l r so sl sr =
     count-bound (λ p. size (new (λ (q : TreePath). pk) p)) (result-counts pk T) (size o + size l + size r) o l r so sl sr (omega arith)
 
-words-length : (o l r : Forest) (xs : Lines) → length (words_of (item_words o l r) xs) ≡ 6 * length xs
+words-length : (o l r : Forest) (xs : Lines) → length (words_of (item_words o l r) xs) ≡ 4 * length xs
 unfolding words_of
 words-length o l r [] = refl
 words-length o l r (line p d ∷ xs) = let e = words-length o l r xs in omega arith
 
--- the words of a list
-pub list_length : (o l r : Forest) (xs : Lines) → length (list_words o l r xs) ≡ 5 * length xs
-unfolding words_of
-list_length o l r [] = refl
-list_length o l r (line p d ∷ xs) = omega (arith, list_length o l r xs)
-
 -- the words of a plan
-pub plan-length : (o l r : Forest) → length (plan_words o l r) ≡ 6 * length (items (plan o l r))
+pub plan-length : (o l r : Forest) → length (plan_words o l r) ≡ 4 * length (items (plan o l r))
 unfolding plan_words
 plan-length o l r = words-length o l r (items (plan o l r))
 
-pub plan-bound : (o l r : Forest) → Sorted o → Sorted l → Sorted r → length (plan_words o l r) ≤ 6 * (size o + size l + size r)
+pub plan-bound : (o l r : Forest) → Sorted o → Sorted l → Sorted r → length (plan_words o l r) ≤ 4 * (size o + size l + size r)
 plan-bound o l r so sl sr =
     let a = plan-length o l r in
     let b = items-bound o l r so sl sr in omega arith

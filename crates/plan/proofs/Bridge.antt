@@ -9,22 +9,20 @@ use lib.ListN.{length}
 use Prim.Native.Nat.{ℕ, zero, suc, ◌+◌, ◌≤◌, ◌<◌}
 use Rattle.tree.specs.Name.{Name}
 use Rattle.tree.specs.Forest.{Forest, Forest.end, kids, size, Sorted}
-use Rattle.tree.specs.Preorder.{compared}
-use Rattle.tree.specs.declared.Compared.{Compared}
-use Rattle.tree.specs.declared.Compared.TheVariants.{Equal, DifferAt}
-use Rattle.settle.specs.Decision.{Decision.agreed, rule, decide}
+use Rattle.tree.specs.Same.{same_node}
+use Rattle.settle.specs.Decision.{rule, decide}
 use Rattle.settle.specs.Plan.{settle}
 use Rattle.table_stands.specs.Stands.{Ruled}
-use Rattle.plan_cursor.specs.Cursor.{least, decision_by, decision}
+use Rattle.plan_cursor.specs.Cursor.{least, decision}
 use Rattle.plan_cursor.specs.declared.Rows.{Rows}
+use Rattle.plan_cursor.specs.declared.Decision.TheVariants.{Agreed, LeftGets, RightGets, Clash}
 use Rattle.tree.proofs.Never.{never}
-use Rattle.tree.proofs.Preorder.{is_equal, compared-test}
 use Rattle.tree.proofs.Size.{row_count}
 use Rattle.settle.proofs.Merge.{first, skip, sorted-skip, plan-end}
-use Rattle.table_stands.proofs.Same.{compared-subtrees}
+use Rattle.table_stands.proofs.Same.{same-subtrees}
 use Rattle.plan.specs.Items.{kind, items, or_none, words_of}
-use Rattle.plan.specs.Settle.{Three, nowhere, six, decision_words, ended, past, merge, enough, flatten, firsts, both, entry}
-use Rattle.plan.proofs.Runs.{Runs, written, past as past_runs, inside, Ready, entry_words, placed, own_words, written_step, words-single, words-pair}
+use Rattle.plan.specs.Settle.{Three, four, decision_words, ended, past, merge, enough, flatten, firsts, both, entry}
+use Rattle.plan.proofs.Runs.{Runs, written, past as past_runs, inside, Ready, entry_words, own_words, written_step, words-single, words-pair}
 use Rattle.plan.proofs.Head.{Run, head_row}
 use Rattle.plan.proofs.Least.{Key, Key.named, Key.last, key, LeastOf, least_key, least-of, least-key, keep-first, key-at, least-keys}
 use Rattle.plan.proofs.Keys.{key-last, key-first, key-eight, up-last, stands-row, run-size, size_none, Levels, levels-skip, levels-inside, levels-none, sorted-inside, ruled-kids, key_has, some-rows, settle-pair, settle-alone}
@@ -134,32 +132,27 @@ module _ (o l r : List ℕ) (T : Three o l r) where
 
   -- an entry that is not a folder on both sides: the decision's words
   decided : (e : ℕ) (n : Name) (z : Runs) → Entries e n z → length n ≡ 8
-      → decision_words (decision o l r (own n z)) ≡ own_words z n (decide (first n z.o) (first n z.l) (first n z.r))
+      → decision_words (decision o l r (own n z)) ≡ own_words z n (kind (decide (first n z.o) (first n z.l) (first n z.r)))
   unfolding decision decide decision_words kind
   decided e n z E h =
       rw (
-        compared-subtrees l (or_none (first n z.l) z.bl) r (or_none (first n z.r) z.br) (suc e) n (first n z.l) (first n z.r)
-            E.el.stands E.er.stands h E.el.ruled E.er.ruled,
-        compared-subtrees l (or_none (first n z.l) z.bl) o (or_none (first n z.o) z.bo) (suc e) n (first n z.l) (first n z.o)
-            E.el.stands E.eo.stands h E.el.ruled E.eo.ruled,
-        compared-subtrees r (or_none (first n z.r) z.br) o (or_none (first n z.o) z.bo) (suc e) n (first n z.r) (first n z.o)
-            E.er.stands E.eo.stands h E.er.ruled E.eo.ruled,
-        compared-test (first n z.l) (first n z.r),
-        compared-test (first n z.l) (first n z.o),
-        compared-test (first n z.r) (first n z.o),
+        same-subtrees l (or_none (first n z.l) z.bl) r (or_none (first n z.r) z.br) (suc e) n (first n z.l) (first n z.r)
+            T.l-whole T.r-whole E.el.stands E.er.stands h E.el.ruled E.er.ruled,
+        same-subtrees l (or_none (first n z.l) z.bl) o (or_none (first n z.o) z.bo) (suc e) n (first n z.l) (first n z.o)
+            T.l-whole T.o-whole E.el.stands E.eo.stands h E.el.ruled E.eo.ruled,
+        same-subtrees r (or_none (first n z.r) z.br) o (or_none (first n z.o) z.bo) (suc e) n (first n z.r) (first n z.o)
+            T.r-whole T.o-whole E.er.stands E.eo.stands h E.er.ruled E.eo.ruled,
       )
-      (by-answers (compared (first n z.l) (first n z.r)) (compared (first n z.l) (first n z.o)) (compared (first n z.r) (first n z.o)))
+      (go (same_node (first n z.l) (first n z.r)) (same_node (first n z.l) (first n z.o)) (same_node (first n z.r) (first n z.o)))
     where
       g : Rows
       g = own n z
 
-      by-answers : (a b c : Compared)
-          → decision_words (decision_by a b c g)
-          ≡ (let d = rule (is_equal a) (is_equal b) (is_equal c) in kind d ∷ g.o ∷ g.l ∷ g.r ∷ placed d b ∷ placed d c ∷ [])
-      by-answers Equal b c = refl
-      by-answers (DifferAt k) Equal c = refl
-      by-answers (DifferAt k) (DifferAt i) Equal = refl
-      by-answers (DifferAt k) (DifferAt i) (DifferAt j) = refl
+      go : (a b c : Bool) → decision_words (cond a (Agreed g) (cond b (LeftGets g) (cond c (RightGets g) (Clash g)))) ≡ own_words z n (kind (rule a b c))
+      go true b c = refl
+      go false true c = refl
+      go false false true = refl
+      go false false false = refl
 
   abbrev pub Folder : ℕ → Type 0
   Folder k = (m e : ℕ) (z : Runs) → At e k z → size z.o + size z.l + size z.r ≤ m
@@ -170,7 +163,7 @@ module _ (o l r : List ℕ) (T : Three o l r) where
       → entry o l r k (suc e) (own n z) ≡ entry_words z n (settle (first n z.o) (first n z.l) (first n z.r))
 
   entry-words : (k : ℕ) → Folder k → EntryOf (suc k)
-  unfolding entry both kind
+  unfolding entry both
   entry-words k F e n z A L = rw (E.el.folders, E.er.folders) (go (cond (is_fold (first n z.l)) (is_fold (first n z.r)) false) refl)
     where
       E : Entries e n z
@@ -193,10 +186,10 @@ module _ (o l r : List ℕ) (T : Three o l r) where
           let c = run-size r (suc e) (kids (first n z.r)) (suc z.br) E.er.entries in omega arith))
 
       go : (c : Bool) → cond (is_fold (first n z.l)) (is_fold (first n z.r)) false ≡ c
-          → cond c (six 0 (own n z) nowhere ++ flatten (entry o l r k (suc e + 1)) (merge o l r (suc e + 1) (enough o l r) (firsts o l r (suc e + 1) (own n z))))
+          → cond c (four 0 (own n z) ++ flatten (entry o l r k (suc e + 1)) (merge o l r (suc e + 1) (enough o l r) (firsts o l r (suc e + 1) (own n z))))
           (decision_words (decision o l r (own n z))) ≡ entry_words z n (settle (first n z.o) (first n z.l) (first n z.r))
       go true q =
-          rw (settle-pair (first n z.o) (first n z.l) (first n z.r) q, words-pair z n R) (ap (λ (w : List ℕ). own_words z n agreed ++ w) inner)
+          rw (settle-pair (first n z.o) (first n z.l) (first n z.r) q, words-pair z n R) (ap (λ (w : List ℕ). own_words z n 0 ++ w) inner)
       go false q =
           rw (settle-alone (first n z.o) (first n z.l) (first n z.r) q, words-single z n (first n z.o) (first n z.l) (first n z.r) R)
           (decided e n z E (eight e (suc k) n z A L.one))

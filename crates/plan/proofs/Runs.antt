@@ -1,18 +1,15 @@
 -- The words of three runs of siblings, as a loop over them writes them: the least name's entry, then the rest.
 use mathlib.Core.Path.{◌≡◌, refl, ap, ap₂, sym, ◌∙◌}
-use mathlib.Core.List.{List, [], ◌∷◌, ◌++◌, map, append_assoc, append-nil}
+use mathlib.Core.List.{List, [], ◌∷◌, ◌++◌, map, append_assoc}
 use mathlib.Core.Bool.{true}
 use native.Mathlib.Omega.{arith}
 use Prim.Native.Nat.{ℕ, suc, ◌+◌, Ordering}
 use Rattle.tree.specs.Name.{Name, cmp, if_same, by_order}
-use Rattle.tree.specs.Forest.{TreePath, Forest, Forest.end, Forest.leaf, Forest.dir, Node, Node.absent, Node.folder, find, kids, at, add, size, Sorted, Present}
-use Rattle.tree.specs.Preorder.{compared}
-use Rattle.tree.specs.declared.Compared.{Compared}
-use Rattle.settle.specs.Decision.{Decision, Decision.agreed, Decision.left_gets, Decision.right_gets, Decision.clash, decide}
+use Rattle.tree.specs.Forest.{TreePath, Forest, Forest.end, Forest.leaf, Forest.dir, Node, Node.absent, find, kids, at, add, size, Sorted, Present}
+use Rattle.settle.specs.Decision.{Decision.agreed, decide}
 use Rattle.settle.specs.Names.{Names, names}
 use Rattle.settle.specs.Plan.{Plan, Entry, Entry.single, Entry.pair, add_item, plan_over, settle_in, plan, settle}
 use Rattle.settle.specs.Results.{Line, Line.line, Lines, under}
-use Rattle.settle.specs.Begins.{no_place, place_of, place_in}
 use Rattle.table_stands.specs.Around.{before, row_in}
 use Rattle.table_stands.proofs.Around.{before-add}
 use Rattle.tree.proofs.Never.{never}
@@ -38,14 +35,7 @@ pub record Runs : Type 0 where
   pub br : ℕ
 
 abbrev pub run_words : Runs → Line → List ℕ
-run_words z (line p d) =
-    kind d ∷
-    row_from z.bo z.o p ∷
-    row_from z.bl z.l p ∷
-    row_from z.br z.r p ∷
-    place_in z.o z.l (line p d) ∷
-    place_in z.o z.r (line p d) ∷
-    []
+run_words z (line p d) = kind d ∷ row_from z.bo z.o p ∷ row_from z.bl z.l p ∷ row_from z.br z.r p ∷ []
 
 -- the words of all items of three runs
 abbrev pub written : Runs → List ℕ
@@ -135,37 +125,6 @@ row_inside b n m f p sf lf =
     = let e = before-least n f lf in omega arith in
     rw (find_first n f sf lf, z)
 
--- the place of a line that is decided d, where the side and the archive compare so
-abbrev pub placed : Decision → Compared → ℕ
-placed agreed c = no_place
-placed left_gets c = no_place
-placed right_gets c = no_place
-placed clash c = place_of c
-
-place_at : (o s : Forest) (p : TreePath) (d : Decision) → place_in o s (line p d) ≡ placed d (compared (at (folder s) p) (at (folder o) p))
-unfolding place_in
-place_at o s p agreed = refl
-place_at o s p left_gets = refl
-place_at o s p right_gets = refl
-place_at o s p clash = refl
-
--- it goes by what stands at the path
-place-skip : (n m : Name) (o s : Forest) (p : TreePath) (d : Decision) → cmp n m ≡ Ordering.lt → place_in o s (line (m ∷ p) d) ≡ place_in (skip n o) (skip n s) (line (m ∷ p) d)
-unfolding at
-place-skip n m o s p d g =
-    let h : cmp m n ≡ Ordering.eq → ⊥ = λ h. let a = cmp-flip n m in never (cc) in
-    rw (place_at o s (m ∷ p) d, place_at (skip n o) (skip n s) (m ∷ p) d, find-skip n m h o, find-skip n m h s)
-
-place-head : (n : Name) (o s : Forest) (d : Decision) → Sorted o → Sorted s → Least n o → Least n s → place_in o s (line (n ∷ []) d) ≡ placed d (compared (first n s) (first n o))
-unfolding at
-place-head n o s d so ss lo ls = rw (place_at o s (n ∷ []) d, find_first n o so lo, find_first n s ss ls)
-
-place_inside : (n m : Name) (o s : Forest) (p : TreePath) (d : Decision) → Sorted o → Sorted s → Least n o → Least n s
-    → place_in o s (line (n ∷ m ∷ p) d) ≡ place_in (kids (first n o)) (kids (first n s)) (line (m ∷ p) d)
-unfolding at
-place_inside n m o s p d so ss lo ls =
-    rw (place_at o s (n ∷ m ∷ p) d, place_at (kids (first n o)) (kids (first n s)) (m ∷ p) d, find_first n o so lo, find_first n s ss ls)
-
 -- words of lines
 words_append : (g : Line → List ℕ) (a b : Lines) → words_of g (a ++ b) ≡ words_of g a ++ words_of g b
 unfolding words_of
@@ -187,14 +146,7 @@ words-under : (z : Runs) (n m : Name) (xs : Lines) → cmp n m ≡ Ordering.lt �
 unfolding words_of
 words-under z n m [] g = refl
 words-under z n m (line p d ∷ xs) g =
-    rw (
-      row-skip z.bo n m z.o p g,
-      row-skip z.bl n m z.l p g,
-      row-skip z.br n m z.r p g,
-      place-skip n m z.o z.l p d g,
-      place-skip n m z.o z.r p d g,
-      words-under z n m xs g,
-    )
+    rw (row-skip z.bo n m z.o p g, row-skip z.bl n m z.l p g, row-skip z.br n m z.r p g, words-under z n m xs g)
 
 words-rest : (z : Runs) (n : Name) (ns : Names) (g : Name → Entry) → Over n ns
     → words_of (run_words z) (items (plan_over ns g)) ≡ words_of (run_words (past n z)) (items (plan_over ns g))
@@ -215,8 +167,6 @@ words-in z n m (line p d ∷ xs) R =
       row_inside z.bo n m z.o p R.so R.lo,
       row_inside z.bl n m z.l p R.sl R.ll,
       row_inside z.br n m z.r p R.sr R.lr,
-      place_inside n m z.o z.l p d R.so R.sl R.lo R.ll,
-      place_inside n m z.o z.r p d R.so R.sr R.lo R.lr,
       words-in z n m xs R,
     )
 
@@ -254,35 +204,19 @@ written_step z n R some =
     (words-rest z n (names (skip n z.o) (skip n z.l) (skip n z.r)) (λ m. settle_in (skip n z.l) m (find m (skip n z.o)) (find m (skip n z.r)))
     (over-rest n z.o z.l z.r R.so R.sl R.sr R.lo R.ll R.lr some))
 
--- the six words of an entry called n that is decided d
-abbrev pub own_words : Runs → Name → Decision → List ℕ
-own_words z n d =
-    kind d ∷
-    or_none (first n z.o) z.bo ∷
-    or_none (first n z.l) z.bl ∷
-    or_none (first n z.r) z.br ∷
-    placed d (compared (first n z.l) (first n z.o)) ∷
-    placed d (compared (first n z.r) (first n z.o)) ∷
-    []
+-- the four words of an entry called n that is decided d
+abbrev pub own_words : Runs → Name → ℕ → List ℕ
+own_words z n d = d ∷ or_none (first n z.o) z.bo ∷ or_none (first n z.l) z.bl ∷ or_none (first n z.r) z.br ∷ []
 
-own-words : (z : Runs) (n : Name) (d : Decision) → Ready n z → run_words z (line (n ∷ []) d) ≡ own_words z n d
-own-words z n d R =
-    rw (
-      row-head z.bo n z.o R.so R.lo,
-      row-head z.bl n z.l R.sl R.ll,
-      row-head z.br n z.r R.sr R.lr,
-      place-head n z.o z.l d R.so R.sl R.lo R.ll,
-      place-head n z.o z.r d R.so R.sr R.lo R.lr,
-    )
-
-pub words-single : (z : Runs) (n : Name) (a b c : Node) → Ready n z → entry_words z n (single a b c) ≡ own_words z n (decide a b c)
+pub words-single : (z : Runs) (n : Name) (a b c : Node) → Ready n z → entry_words z n (single a b c) ≡ own_words z n (kind (decide a b c))
 unfolding words_of
-words-single z n a b c R = append-nil (run_words z (line (n ∷ []) (decide a b c))) ∙ own-words z n (decide a b c) R
+words-single z n a b c R = rw (row-head z.bo n z.o R.so R.lo, row-head z.bl n z.l R.sl R.ll, row-head z.br n z.r R.sr R.lr)
 
 pub words-pair : (z : Runs) (n : Name) → Ready n z
-    → entry_words z n (pair (plan (kids (first n z.o)) (kids (first n z.l)) (kids (first n z.r)))) ≡ own_words z n agreed ++ written (inside n z)
-unfolding words_of plan
+    → entry_words z n (pair (plan (kids (first n z.o)) (kids (first n z.l)) (kids (first n z.r)))) ≡ own_words z n 0 ++ written (inside n z)
+unfolding words_of plan kind
 words-pair z n R =
-    ap₂ (λ (a b : List ℕ). a ++ b) (own-words z n agreed R)
+    rw (row-head z.bo n z.o R.so R.lo, row-head z.bl n z.l R.sl R.ll, row-head z.br n z.r R.sr R.lr)
+    (ap (λ (w : List ℕ). own_words z n 0 ++ w)
     (words_inside z n (names (kids (first n z.o)) (kids (first n z.l)) (kids (first n z.r)))
-    (λ m. settle_in (kids (first n z.l)) m (find m (kids (first n z.o))) (find m (kids (first n z.r)))) R)
+    (λ m. settle_in (kids (first n z.l)) m (find m (kids (first n z.o))) (find m (kids (first n z.r)))) R))

@@ -14,7 +14,7 @@ use Rattle.table_stands.specs.Around.{before, row_in}
 use Rattle.table_stands.proofs.Forest.{ruled-within}
 use Rattle.plan.specs.Items.{items, or_none, row_of, words_of, item_words, plan_words}
 use Rattle.plan.specs.Settle.{Three, enough, settled}
-use Rattle.plan.proofs.Runs.{row_from-one, Runs, run_words}
+use Rattle.plan.proofs.Runs.{row_from, Runs, run_words}
 use Rattle.plan.proofs.Head.{Siblings, run, from-run}
 use Rattle.plan.proofs.Keys.{run-size}
 use Rattle.plan.proofs.Bridge.{Fit, folders}
@@ -24,8 +24,8 @@ pub record IsTable (w : List ℕ) (f : Forest) : Type 0 where
   pub rows_are : rows w ≡ node_rows 0 root_name (folder f)
   pub formed : WellFormed f
 
-row_from-one : (f : Forest) (p : TreePath) → row_from-one 1 f p ≡ row_of f p
-unfolding row_from-one row_in at
+row_from-one : (f : Forest) (p : TreePath) → row_from 1 f p ≡ row_of f p
+unfolding row_from row_in at
 row_from-one f [] = refl
 row_from-one f (n ∷ p) =
     let z : 1 + size (before n f) + row_in (find n f) p ≡ suc (size (before n f) + row_in (find n f) p) = omega arith in

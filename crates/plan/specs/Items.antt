@@ -1,11 +1,9 @@
--- The items of a plan and their six words: the decision's number, the item's row in archive, left and right, and where a clash
--- begins, left against the archive and right against it.
+-- The items of a plan and their four words: the decision's number, and the item's row in archive, left and right.
 use Rattle.std.specs.Prelude.{List, [], ◌∷◌, ◌++◌, map, ℕ}
 use Rattle.tree.specs.Forest.{TreePath, Forest, Node, Node.absent, Node.file, Node.folder, at}
 use Rattle.settle.specs.Decision.{Decision, Decision.agreed, Decision.left_gets, Decision.right_gets, Decision.clash, decide}
 use Rattle.settle.specs.Plan.{Plan, Plan.done, Plan.item, Plan.both, plan}
 use Rattle.settle.specs.Results.{Line, Line.line, Lines, under}
-use Rattle.settle.specs.Begins.{place_in}
 use Rattle.table_stands.specs.Around.{row_in}
 
 -- as plan and list number the decisions
@@ -37,14 +35,14 @@ words_of g [] = []
 words_of g (x ∷ xs) = g x ++ words_of g xs
 
 abbrev pub item_words : Forest → Forest → Forest → Line → List ℕ
-item_words o l r (line p d) = kind d ∷ row_of o p ∷ row_of l p ∷ row_of r p ∷ place_in o l (line p d) ∷ place_in o r (line p d) ∷ []
+item_words o l r (line p d) = kind d ∷ row_of o p ∷ row_of l p ∷ row_of r p ∷ []
 
 unfoldable pub plan_words : Forest → Forest → Forest → List ℕ
 plan_words o l r = words_of (item_words o l r) (items (plan o l r))
 
--- the list's words: for each line the kind, the rows of left and right, and their places
-abbrev pub entry_words : Forest → Forest → Forest → Line → List ℕ
-entry_words o l r (line p d) = kind d ∷ row_of l p ∷ row_of r p ∷ place_in o l (line p d) ∷ place_in o r (line p d) ∷ []
+-- the list's words: for each line the kind, and the rows of left and right
+abbrev pub entry_words : Forest → Forest → Line → List ℕ
+entry_words l r (line p d) = kind d ∷ row_of l p ∷ row_of r p ∷ []
 
-abbrev pub list_words : Forest → Forest → Forest → Lines → List ℕ
-list_words o l r xs = words_of (entry_words o l r) xs
+abbrev pub list_words : Forest → Forest → Lines → List ℕ
+list_words l r xs = words_of (entry_words l r) xs

@@ -1,9 +1,8 @@
 -- The plan as the code writes it: the entries of three folders merged by name, a decision for each, and beneath a folder
 -- on both sides its entries in turn. k is the depth left.
 use Rattle.std.specs.Prelude.{◌≡◌, List, [], ◌∷◌, ◌++◌, Bool, true, false, cond, length, ℕ, zero, suc, ◌+◌, ◌/◌, ◌%◌, ◌≤◌}
-use Rattle.plan_cursor.specs.Cursor.{none, is_row, from, least, behind, is_folder, decision}
+use Rattle.plan_cursor.specs.Cursor.{is_row, from, least, behind, is_folder, decision}
 use Rattle.plan_cursor.specs.declared.Rows.{Rows}
-use Rattle.plan_cursor.specs.declared.Places.{Places}
 use Rattle.plan_cursor.specs.declared.Decision.{Decision}
 use Rattle.plan_cursor.specs.declared.Decision.TheVariants.{Agreed, LeftGets, RightGets, Clash}
 
@@ -16,19 +15,15 @@ pub record Three (o l r : List ℕ) : Type 0 where
   pub l-whole : length l % 20 ≡ 0
   pub r-whole : length r % 20 ≡ 0
 
--- what is no clash begins nowhere
-abbrev pub nowhere : Places
-nowhere = record { l = none; r = none }
-
--- a decision's six words
-abbrev pub six : ℕ → Rows → Places → List ℕ
-six d h p = d ∷ h.o ∷ h.l ∷ h.r ∷ p.l ∷ p.r ∷ []
+-- a decision's four words
+abbrev pub four : ℕ → Rows → List ℕ
+four d h = d ∷ h.o ∷ h.l ∷ h.r ∷ []
 
 unfoldable pub decision_words : Decision → List ℕ
-decision_words (Agreed h) = six 0 h nowhere
-decision_words (LeftGets h) = six 1 h nowhere
-decision_words (RightGets h) = six 2 h nowhere
-decision_words (Clash h p) = six 3 h p
+decision_words (Agreed h) = four 0 h
+decision_words (LeftGets h) = four 1 h
+decision_words (RightGets h) = four 2 h
+decision_words (Clash h) = four 3 h
 
 -- none of the three is a row
 unfoldable pub ended : List ℕ → List ℕ → List ℕ → Rows → Bool
@@ -63,7 +58,7 @@ unfoldable pub entry : List ℕ → List ℕ → List ℕ → ℕ → ℕ → Ro
 entry o l r zero d h = decision_words (decision o l r h)
 entry o l r (suc k) d h =
     cond (both l r h)
-    (six 0 h nowhere ++ flatten (entry o l r k (d + 1)) (merge o l r (d + 1) (enough o l r) (firsts o l r (d + 1) h)))
+    (four 0 h ++ flatten (entry o l r k (d + 1)) (merge o l r (d + 1) (enough o l r) (firsts o l r (d + 1) h)))
     (decision_words (decision o l r h))
 
 -- the words of three folders' entries of depth d, from the heads h on

@@ -7,7 +7,7 @@ use plan_run::Ran;
 use plan_tally::Tally;
 use tree::Profile;
 
-// A reconciliation of tables that keep the rules, with a plan of six words a row in one of three sizes: of small tables most of
+// A reconciliation of tables that keep the rules, with a plan of four words a row in one of three sizes: of small tables most of
 // the time would be spent on zeroing the largest.
 pub fn carry_out(
     profile: Profile,
@@ -28,13 +28,13 @@ pub fn carry_out(
 {
     let n = o.len() / 20 + l.len() / 20 + r.len() / 20;
     if n <= 128 {
-        let mut plan = [0u32; 768];
+        let mut plan = [0u32; 512];
         return plan_lent::with_plan(profile, o, l, r, archive, left, right, list, old, &mut plan);
     }
     if n <= 1024 {
-        let mut plan = [0u32; 6144];
+        let mut plan = [0u32; 4096];
         return plan_lent::with_plan(profile, o, l, r, archive, left, right, list, old, &mut plan);
     }
-    let mut plan = [0u32; 73728];
+    let mut plan = [0u32; 49152];
     plan_lent::with_plan(profile, o, l, r, archive, left, right, list, old, &mut plan)
 }

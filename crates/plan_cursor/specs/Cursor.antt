@@ -1,13 +1,12 @@
 -- Three tables looked at through a row number of each; 4,294,967,295 is no row.
 use Rattle.std.specs.Prelude.{List, [], ◌∷◌, Bool, true, false, cond, ltb, eqb, length, drop, ℕ, suc, ◌+◌, ◌/◌}
 use Rattle.tree.specs.Name.{cmp}
-use Rattle.tree.specs.declared.Compared.{Compared}
-use Rattle.tree.specs.declared.Compared.TheVariants.{Equal, DifferAt}
+use Rattle.tree.specs.Same.{same_words}
 use Rattle.table_row.specs.Table.{Row, row_at, rows, depth, kind, name}
 use Rattle.table_row.specs.Order.{ordered}
 use Rattle.table_row.specs.declared.Order.{Order}
 use Rattle.table_row.specs.declared.Order.TheVariants.{Less, Same, Greater}
-use Rattle.table_find.specs.Subtree.{compared_rows}
+use Rattle.table_find.specs.Subtree.{subtree}
 use Rattle.plan_cursor.specs.declared.Rows.{Rows}
 use Rattle.plan_cursor.specs.declared.Decision.{Decision}
 use Rattle.plan_cursor.specs.declared.Decision.TheVariants.{Agreed, LeftGets, RightGets, Clash}
@@ -61,12 +60,9 @@ behind w d a t = cond (is_row w t) (from w d (t + 1)) a
 unfoldable pub is_folder : List ℕ → ℕ → Bool
 is_folder w i = cond (is_row w i) (eqb (kind (row_at w i)) 0) false
 
--- the first line that fits, by left against right, left against the archive and right against the archive
-abbrev pub decision_by : Compared → Compared → Compared → Rows → Decision
-decision_by Equal a b h = Agreed h
-decision_by (DifferAt k) Equal b h = LeftGets h
-decision_by (DifferAt k) (DifferAt i) Equal h = RightGets h
-decision_by (DifferAt k) (DifferAt i) (DifferAt j) h = Clash h (record { l = i; r = j })
-
+-- the first line that fits
 unfoldable pub decision : List ℕ → List ℕ → List ℕ → Rows → Decision
-decision o l r h = decision_by (compared_rows l h.l r h.r) (compared_rows l h.l o h.o) (compared_rows r h.r o h.o) h
+decision o l r h =
+    cond (same_words (subtree l h.l) (subtree r h.r)) (Agreed h)
+    (cond (same_words (subtree l h.l) (subtree o h.o)) (LeftGets h)
+    (cond (same_words (subtree r h.r) (subtree o h.o)) (RightGets h) (Clash h)))

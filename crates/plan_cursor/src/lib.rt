@@ -1,20 +1,11 @@
 // Three tables looked at through a row number of each: the next entry, the entries of the least name, the decision there.
-ghost use Rattle.std.specs.Prelude.{◌≡◌, true, ◌+◌, ◌*◌, ◌≤◌, length};
+ghost use Rattle.std.specs.Prelude.{◌≡◌, true, ◌+◌, ◌*◌, ◌%◌, ◌≤◌, length};
 ghost use Rattle.plan_cursor.specs.Cursor.{is_row, from, order_at, not_after, keep, turned, least, behind, is_folder, decision};
-
-use tree::Compared;
 
 // A row of archive, left and right each; 4,294,967,295 where there is none.
 #[derive(Drop)]
 pub struct Rows {
     pub o: u32,
-    pub l: u32,
-    pub r: u32,
-}
-
-// Where a clash begins: the place at which left first differs from the archive, and that of right.
-#[derive(Drop)]
-pub struct Places {
     pub l: u32,
     pub r: u32,
 }
@@ -25,14 +16,11 @@ pub enum Decision {
     Agreed(Rows),
     LeftGets(Rows),
     RightGets(Rows),
-    Clash(Rows, Places),
+    Clash(Rows),
 }
 
 // No table has this row.
 const NONE: u32 = 4294967295;
-
-// The place of what is no clash.
-pub const NOWHERE: u32 = 4294967295;
 
 // Whether a table has row i.
 pub fn is_row(t: &[u32], i: u32) -> bool
@@ -183,20 +171,20 @@ pub fn is_folder(t: &[u32], i: u32) -> bool
 
 // The decision where the rows h are not folders on both sides: the first of document 01's four lines that fits.
 pub fn decide(o: &[u32], l: &[u32], r: &[u32], h: Rows) -> Decision
-    requires { (length l.now ≤ 81920) × (length r.now ≤ 81920) }
+    requires { (length o.now % 20 ≡ 0) × (length l.now % 20 ≡ 0) × (length r.now % 20 ≡ 0) }
     ensures { result ≡ decision o.now l.now r.now h }
 {
     let a = h.o;
     let b = h.l;
     let c = h.r;
-    match table_find::compare_subtrees(l, b, r, c) {
-        Compared::Equal => Decision::Agreed(h),
-        Compared::DifferAt(_) => match table_find::compare_subtrees(l, b, o, a) {
-            Compared::Equal => Decision::LeftGets(h),
-            Compared::DifferAt(i) => match table_find::compare_subtrees(r, c, o, a) {
-                Compared::Equal => Decision::RightGets(h),
-                Compared::DifferAt(j) => Decision::Clash(h, Places { l: i, r: j }),
-            },
-        },
+    if table_find::same_subtrees(l, b, r, c) {
+        return Decision::Agreed(h);
     }
+    if table_find::same_subtrees(l, b, o, a) {
+        return Decision::LeftGets(h);
+    }
+    if table_find::same_subtrees(r, c, o, a) {
+        return Decision::RightGets(h);
+    }
+    Decision::Clash(h)
 }

@@ -4,28 +4,24 @@ ghost use Rattle.table_row.specs.Table.{row_at};
 ghost use Rattle.plan_results.specs.Decisions.{decision_of};
 ghost use Rattle.plan_results.specs.Pieces.{source_of};
 
-use plan_cursor::{Decision, Places, Rows};
+use plan_cursor::{Decision, Rows};
 use plan_results::{Source, Tree};
 
 // Item k of a plan.
 pub fn decode(plan: &[u32], k: usize) -> Decision
-    requires { 6 * k + 6 ≤ length plan.now }
-    ensures { result ≡ decision_of (drop (6 * k) plan.now) }
+    requires { 4 * k + 4 ≤ length plan.now }
+    ensures { result ≡ decision_of (drop (4 * k) plan.now) }
 {
-    let p = 6 * k;
+    let p = 4 * k;
     let o = plan[p + 1];
     let l = plan[p + 2];
     let r = plan[p + 3];
     let h = Rows { o, l, r };
-    let places = Places {
-        l: plan[p + 4],
-        r: plan[p + 5],
-    };
     match plan[p] {
         0 => Decision::Agreed(h),
         1 => Decision::LeftGets(h),
         2 => Decision::RightGets(h),
-        _ => Decision::Clash(h, places),
+        _ => Decision::Clash(h),
     }
 }
 
@@ -56,7 +52,7 @@ pub fn takes(tree: Tree, d: Decision) -> Source
         },
         Decision::LeftGets(h) => Source::RightPart(h.r),
         Decision::RightGets(h) => Source::LeftPart(h.l),
-        Decision::Clash(h, _) => match tree {
+        Decision::Clash(h) => match tree {
             Tree::Archive => Source::OldPart(h.o),
             Tree::Left => Source::LeftPart(h.l),
             Tree::Right => Source::RightPart(h.r),

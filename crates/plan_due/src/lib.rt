@@ -41,7 +41,7 @@ pub fn rooms_due(c: Counts, archive: usize, left: usize, right: usize, list: usi
     let first = table_answers::unless_refused(table_answers::has_room(c.archive, archive), 3, 1);
     let second = table_answers::unless_refused(table_answers::has_room(c.left, left), 3, 2);
     let third = table_answers::unless_refused(table_answers::has_room(c.right, right), 3, 3);
-    let last = table_answers::unless_refused(c.list <= list / 5, 3, 4);
+    let last = table_answers::unless_refused(c.list <= list / 3, 3, 4);
     table_answers::first_of(
         first,
         table_answers::first_of(second, table_answers::first_of(third, last)),

@@ -11,7 +11,7 @@ use plan_run::Counts;
 pub fn counts_of(o: &[u32], l: &[u32], r: &[u32], plan: &[u32], n: usize) -> Counts
     requires three { Three o.now l.now r.now }
     requires in_bounds { 20 ≤ length l.now }
-    requires n_in_bounds { (6 * n ≤ length plan.now) × (n ≤ 12288) }
+    requires n_in_bounds { (4 * n ≤ length plan.now) × (n ≤ 12288) }
     ensures { result ≡ planned_counts o.now l.now r.now (decisions n plan.now) }
 {
     let archive = plan_trees::count_tree(o, l, r, Tree::Archive, plan, n);
@@ -22,7 +22,7 @@ pub fn counts_of(o: &[u32], l: &[u32], r: &[u32], plan: &[u32], n: usize) -> Cou
         archive: archive / 20,
         left: left / 20,
         right: right / 20,
-        list: list / 5,
+        list: list / 3,
     }
 }
 
@@ -40,7 +40,7 @@ pub fn write_results(
 )
     requires three { Three o.now l.now r.now }
     requires in_bounds { 20 ≤ length l.now }
-    requires n_in_bounds { 6 * n ≤ length plan.now }
+    requires n_in_bounds { 4 * n ≤ length plan.now }
     requires spacious { Spacious (planned_words o.now l.now r.now (decisions n plan.now)) archive.old left.old right.old list.old }
     ensures { Wrote (planned_words o.now l.now r.now (decisions n plan.now))
         archive.old left.old right.old list.old

@@ -23,13 +23,13 @@ pub fn with_plan(
     plan: &mut [u32],
 ) -> Ran
     requires passes { Passes profile o.now × Passes profile l.now × Passes profile r.now }
-    requires r_in_bounds { 6 * rows_of o.now l.now r.now ≤ length plan.old }
+    requires r_in_bounds { 4 * rows_of o.now l.now r.now ≤ length plan.old }
     ensures { Settles profile o.now l.now r.now
         (lent archive.old left.old right.old list.old old)
         (lent archive.new left.new right.new list.new result.tally)
         result.answer }
 {
-    let n = plan_settle::settle_in(profile, o, l, r, plan) / 6;
+    let n = plan_settle::settle_in(profile, o, l, r, plan) / 4;
     let c = plan_fill::counts_of(o, l, r, plan, n);
     let due = plan_due::rooms_due(c, archive.len(), left.len(), right.len(), list.len());
     let answer = plan_due::answer_with(due, c);

@@ -4,7 +4,7 @@ ghost use Rattle.plan.specs.Writes.{Writes, Fills};
 ghost use Rattle.plan_results.specs.Decisions.{decisions, pieces};
 ghost use Rattle.plan_results.specs.Pieces.{piece_list};
 
-use plan_cursor::{Decision, NOWHERE};
+use plan_cursor::Decision;
 
 // How many words the list has for a decision.
 fn line_len(d: Decision) -> usize
@@ -12,9 +12,9 @@ fn line_len(d: Decision) -> usize
 {
     match d {
         Decision::Agreed(_) => 0,
-        Decision::LeftGets(_) => 5,
-        Decision::RightGets(_) => 5,
-        Decision::Clash(_, _) => 5,
+        Decision::LeftGets(_) => 3,
+        Decision::RightGets(_) => 3,
+        Decision::Clash(_) => 3,
     }
 }
 
@@ -25,15 +25,15 @@ fn write_line(d: Decision, out: &mut [u32], at: usize) -> usize
 {
     match d {
         Decision::Agreed(_) => at,
-        Decision::LeftGets(h) => table_row::copy_words(&[1, h.l, h.r, NOWHERE, NOWHERE], out, at),
-        Decision::RightGets(h) => table_row::copy_words(&[2, h.l, h.r, NOWHERE, NOWHERE], out, at),
-        Decision::Clash(h, p) => table_row::copy_words(&[3, h.l, h.r, p.l, p.r], out, at),
+        Decision::LeftGets(h) => table_row::copy_words(&[1, h.l, h.r], out, at),
+        Decision::RightGets(h) => table_row::copy_words(&[2, h.l, h.r], out, at),
+        Decision::Clash(h) => table_row::copy_words(&[3, h.l, h.r], out, at),
     }
 }
 
 // How many words the list has.
 pub fn count_list(plan: &[u32], n: usize) -> usize
-    requires { (6 * n ≤ length plan.now) × (n ≤ 12288) }
+    requires { (4 * n ≤ length plan.now) × (n ≤ 12288) }
     ensures { result ≡ length (pieces piece_list (decisions n plan.now)) }
 {
     let mut sum = 0;
@@ -48,7 +48,7 @@ pub fn count_list(plan: &[u32], n: usize) -> usize
 
 // The list at the start of out; how many words it has.
 pub fn write_list(plan: &[u32], n: usize, out: &mut [u32]) -> usize
-    requires n_in_bounds { 6 * n ≤ length plan.now }
+    requires n_in_bounds { 4 * n ≤ length plan.now }
     requires plan_in_bounds { length (pieces piece_list (decisions n plan.now)) ≤ length out.old }
     ensures { Fills out.old (pieces piece_list (decisions n plan.now)) out.new result }
 {

@@ -82,7 +82,7 @@ pub fn write_piece(
         Decision::Agreed(_) => {}
         Decision::LeftGets(h) => name_moved(l, r, tree, h, out, at, e),
         Decision::RightGets(h) => name_moved(l, r, tree, h, out, at, e),
-        Decision::Clash(_, _) => {}
+        Decision::Clash(_) => {}
     }
     e
 }

@@ -57,7 +57,7 @@ pub piece-length : (t : Tree) (o l r : List ℕ) → Three o l r → (d : Decisi
 piece-length t o l r T (Agreed h) = refl
 piece-length t o l r T (LeftGets h) = length-named (name_row t l r h) _ (name-whole t l r h T.l-whole T.r-whole) (source-whole o l r T (source_of (LeftGets h) t))
 piece-length t o l r T (RightGets h) = length-named (name_row t l r h) _ (name-whole t l r h T.l-whole T.r-whole) (source-whole o l r T (source_of (RightGets h) t))
-piece-length t o l r T (Clash h p) = refl
+piece-length t o l r T (Clash h) = refl
 
 -- what is taken has been written, and is to be named
 module _ (t : Tree) (o l r : List ℕ) (T : Three o l r) (d : Decision) {b e : List ℕ} {at q : ℕ} (w : Writes b at (taken t o l r d) e q) where
@@ -85,8 +85,8 @@ module _ (t : Tree) (o l r : List ℕ) (ds : List Decision) where
   pub tree-length : 20 ≤ length l → length (new_tree t o l r ds) ≡ 20 + length (pieces (piece_of t o l r) ds)
   tree-length h = tree-split ∙ rw (length-take-le 20 l h)
 
-pub line-most : (d : Decision) → length (piece_list d) ≤ 5
+pub line-most : (d : Decision) → length (piece_list d) ≤ 3
 line-most (Agreed h) = omega arith
 line-most (LeftGets h) = omega arith
 line-most (RightGets h) = omega arith
-line-most (Clash h p) = omega arith
+line-most (Clash h) = omega arith

@@ -10,14 +10,13 @@ use Rattle.table_row.specs.Buffer.{over}
 use Rattle.plan_results.specs.Decisions.{numbered, decision_of, decisions}
 
 -- item k in the words that the code reads
-pub decision-at : (p : List ℕ) (k : ℕ) → decision_of (drop (6 * k) p)
-    ≡ numbered (get_or p (6 * k) 0) (record { o = get_or p (6 * k + 1) 0; l = get_or p (6 * k + 2) 0; r = get_or p (6 * k + 3) 0 })
-    (record { l = get_or p (6 * k + 4) 0; r = get_or p (6 * k + 5) 0 })
+pub decision-at : (p : List ℕ) (k : ℕ) → decision_of (drop (4 * k) p)
+    ≡ numbered (get_or p (4 * k) 0) (record { o = get_or p (4 * k + 1) 0; l = get_or p (4 * k + 2) 0; r = get_or p (4 * k + 3) 0 })
 unfolding decision_of
 decision-at p k =
-    simp (get_or-drop, add-zero)
+    rw (get_or-drop (4 * k) p 0 0, get_or-drop (4 * k) p 1 0, get_or-drop (4 * k) p 2 0, get_or-drop (4 * k) p 3 0, add-zero)
 
-decision-prefix : (p x : List ℕ) → 6 ≤ length p → decision_of (p ++ x) ≡ decision_of p
+decision-prefix : (p x : List ℕ) → 4 ≤ length p → decision_of (p ++ x) ≡ decision_of p
 unfolding decision_of
 decision-prefix p x h =
     rw (
@@ -25,19 +24,17 @@ decision-prefix p x h =
       get_or-append p x 0 1 (omega arith),
       get_or-append p x 0 2 (omega arith),
       get_or-append p x 0 3 (omega arith),
-      get_or-append p x 0 4 (omega arith),
-      get_or-append p x 0 5 (omega arith),
     )
 
 -- a plan at the start of a longer buffer
-pub decisions-prefix : (n : ℕ) (p x : List ℕ) → 6 * n ≤ length p → decisions n (p ++ x) ≡ decisions n p
+pub decisions-prefix : (n : ℕ) (p x : List ℕ) → 4 * n ≤ length p → decisions n (p ++ x) ≡ decisions n p
 unfolding decisions
 decisions-prefix zero p x h = refl
 decisions-prefix (suc n) p x h =
-    let a : 6 ≤ length p = omega arith in
-    let b : 6 * n ≤ length (drop 6 p) = rw length-drop (omega arith) in
-    rw (decision-prefix p x a, drop-append-le, decisions-prefix n (drop 6 p) x b)
+    let a : 4 ≤ length p = omega arith in
+    let b : 4 * n ≤ length (drop 4 p) = rw length-drop (omega arith) in
+    rw (decision-prefix p x a, drop-append-le, decisions-prefix n (drop 4 p) x b)
 
-pub decisions-over : (n : ℕ) (d p : List ℕ) → 6 * n ≤ length p → decisions n (over d p) ≡ decisions n p
+pub decisions-over : (n : ℕ) (d p : List ℕ) → 4 * n ≤ length p → decisions n (over d p) ≡ decisions n p
 unfolding over
 decisions-over n d p h = decisions-prefix n p (drop (length p) d) h

@@ -15,10 +15,10 @@ use Rattle.plan_results.specs.Decisions.{decision_of, decisions, pieces}
 
 -- what is made of item k, and of the items from item k on
 abbrev pub piece_at : (Decision → List ℕ) → List ℕ → ℕ → List ℕ
-piece_at f p k = f (decision_of (drop (6 * k) p))
+piece_at f p k = f (decision_of (drop (4 * k) p))
 
 abbrev pub rest : (Decision → List ℕ) → List ℕ → ℕ → ℕ → List ℕ
-rest f p n k = pieces f (decisions (n - k) (drop (6 * k) p))
+rest f p n k = pieces f (decisions (n - k) (drop (4 * k) p))
 
 -- before item k is written: e is d with the pieces before it written from place i on, and the rest is to come at place at
 pub record Writing (f : Decision → List ℕ) (p : List ℕ) (n : ℕ) (d : List ℕ) (i : ℕ) (e : List ℕ) (at k : ℕ) : Type 0 where
@@ -46,7 +46,7 @@ module _ (f : Decision → List ℕ) (p : List ℕ) (n : ℕ) where
   unfolding decisions pieces
   rest-next k h =
       let e : n - k ≡ suc (n - (k + 1)) = omega arith in
-      let m : 6 * k + 6 ≡ 6 * (k + 1) = omega arith in
+      let m : 4 * k + 4 ≡ 4 * (k + 1) = omega arith in
       rw (e, drop-drop, m)
 
   rest-length : (k : ℕ) → k < n → length (rest f p n k) ≡ length (piece_at f p k) + length (rest f p n (k + 1))

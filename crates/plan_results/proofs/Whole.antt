@@ -10,13 +10,12 @@ use Rattle.tree.specs.Forest.{TreePath, Forest, Node, Node.absent, Node.file, No
 use Rattle.settle.specs.Decision.{Decision.agreed, Decision.left_gets, Decision.right_gets, Decision.clash, decide}
 use Rattle.settle.specs.Plan.{Plan, Plan.done, Plan.item, Plan.both, plan}
 use Rattle.settle.specs.Results.{Line, Line.line, Lines, under, line_of, list}
-use Rattle.settle.specs.Begins.{place_in}
 use Rattle.settle.specs.Resume.{keep, keep_if}
 use Rattle.table_row.specs.Table.{row_at, flat}
 use Rattle.table_row.specs.Tree.{file_row, folder_row, rows_of, node_rows}
 use Rattle.table_stands.specs.Stands.{StandsOr}
 use Rattle.plan_cursor.specs.declared.Decision.{Decision}
-use Rattle.plan.specs.Items.{kind, items, row_of, words_of, item_words, plan_words, entry_words, list_words}
+use Rattle.plan.specs.Items.{kind, items, row_of, words_of, item_words, plan_words, list_words}
 use Rattle.settle.proofs.Lines.{keep_append, keep-under, keep-cong}
 use Rattle.settle.proofs.Picks.{Result, Result.left, Result.right, Result.archive}
 use Rattle.table_row.proofs.Table.{row-none}
@@ -29,7 +28,7 @@ use Rattle.plan_results.proofs.Taken.{deep}
 
 -- the decision of an item, with its rows
 abbrev pub of_line : Forest → Forest → Forest → Line → Decision
-of_line o l r (line p d) = numbered (kind d) (record { o = row_of o p; l = row_of l p; r = row_of r p }) (record { l = place_in o l (line p d); r = place_in o r (line p d) })
+of_line o l r (line p d) = numbered (kind d) (record { o = row_of o p; l = row_of l p; r = row_of r p })
 
 pub decisions-items : (o l r : Forest) (xs : Lines) → decisions (length xs) (words_of (item_words o l r) xs) ≡ map (of_line o l r) xs
 unfolding decisions decision_of words_of
@@ -84,15 +83,15 @@ list-items (both n k s) =
     (list-items s)
     ∙ sym (keep_append listed (map (under n) (items k)) (items s))
 
-line-words : (o l r : Forest) (xs : Lines) → pieces piece_list (map (of_line o l r) xs) ≡ list_words o l r (keep listed xs)
-unfolding pieces keep listed words_of kind place_in
+line-words : (o l r : Forest) (xs : Lines) → pieces piece_list (map (of_line o l r) xs) ≡ list_words l r (keep listed xs)
+unfolding pieces keep listed words_of kind
 line-words o l r [] = refl
 line-words o l r (line p agreed ∷ xs) = line-words o l r xs
-line-words o l r (line p left_gets ∷ xs) = ap (λ (w : List ℕ). entry_words o l r (line p left_gets) ++ w) (line-words o l r xs)
-line-words o l r (line p right_gets ∷ xs) = ap (λ (w : List ℕ). entry_words o l r (line p right_gets) ++ w) (line-words o l r xs)
-line-words o l r (line p clash ∷ xs) = ap (λ (w : List ℕ). entry_words o l r (line p clash) ++ w) (line-words o l r xs)
+line-words o l r (line p left_gets ∷ xs) = ap (λ (w : List ℕ). 1 ∷ row_of l p ∷ row_of r p ∷ w) (line-words o l r xs)
+line-words o l r (line p right_gets ∷ xs) = ap (λ (w : List ℕ). 2 ∷ row_of l p ∷ row_of r p ∷ w) (line-words o l r xs)
+line-words o l r (line p clash ∷ xs) = ap (λ (w : List ℕ). 3 ∷ row_of l p ∷ row_of r p ∷ w) (line-words o l r xs)
 
-pub list-words : (o l r : Forest) → pieces piece_list (decisions (length (items (plan o l r))) (plan_words o l r)) ≡ list_words o l r (list (plan o l r))
+pub list-words : (o l r : Forest) → pieces piece_list (decisions (length (items (plan o l r))) (plan_words o l r)) ≡ list_words l r (list (plan o l r))
 unfolding plan_words
 list-words o l r =
-    ap (pieces piece_list) (decisions-items o l r (items (plan o l r))) ∙ line-words o l r (items (plan o l r)) ∙ ap (list_words o l r) (sym (list-items (plan o l r)))
+    ap (pieces piece_list) (decisions-items o l r (items (plan o l r))) ∙ line-words o l r (items (plan o l r)) ∙ ap (list_words l r) (sym (list-items (plan o l r)))

@@ -1,22 +1,21 @@
--- A plan's words read back: six for each decision.
+-- A plan's words read back: four for each decision.
 use Rattle.std.specs.Prelude.{List, [], ◌∷◌, ◌++◌, cond, eqb, drop, get_or, ℕ, zero, suc}
 use Rattle.plan_cursor.specs.declared.Rows.{Rows}
-use Rattle.plan_cursor.specs.declared.Places.{Places}
 use Rattle.plan_cursor.specs.declared.Decision.{Decision}
 use Rattle.plan_cursor.specs.declared.Decision.TheVariants.{Agreed, LeftGets, RightGets, Clash}
 
 -- the decision of a number; the plan has none above 3
-abbrev pub numbered : ℕ → Rows → Places → Decision
-numbered d h p = cond (eqb d 0) (Agreed h) (cond (eqb d 1) (LeftGets h) (cond (eqb d 2) (RightGets h) (Clash h p)))
+abbrev pub numbered : ℕ → Rows → Decision
+numbered d h = cond (eqb d 0) (Agreed h) (cond (eqb d 1) (LeftGets h) (cond (eqb d 2) (RightGets h) (Clash h)))
 
--- the decision that six words say
+-- the decision that four words say
 unfoldable pub decision_of : List ℕ → Decision
-decision_of p = numbered (get_or p 0 0) (record { o = get_or p 1 0; l = get_or p 2 0; r = get_or p 3 0 }) (record { l = get_or p 4 0; r = get_or p 5 0 })
+decision_of p = numbered (get_or p 0 0) (record { o = get_or p 1 0; l = get_or p 2 0; r = get_or p 3 0 })
 
 -- the first n decisions of a plan
 unfoldable pub decisions : ℕ → List ℕ → List Decision
 decisions zero p = []
-decisions (suc n) p = decision_of p ∷ decisions n (drop 6 p)
+decisions (suc n) p = decision_of p ∷ decisions n (drop 4 p)
 
 -- what is made of each, one after the other
 unfoldable pub pieces : (Decision → List ℕ) → List Decision → List ℕ

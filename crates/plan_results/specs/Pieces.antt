@@ -4,7 +4,6 @@
 use Rattle.std.specs.Prelude.{List, [], ◌∷◌, ◌++◌, ℕ}
 use Rattle.table_row.specs.Table.{Row, row_at, name, called}
 use Rattle.table_find.specs.Subtree.{subtree}
-use Rattle.plan_cursor.specs.Cursor.{none}
 use Rattle.plan_cursor.specs.declared.Rows.{Rows}
 use Rattle.plan_cursor.specs.declared.Decision.{Decision}
 use Rattle.plan_cursor.specs.declared.Decision.TheVariants.{Agreed, LeftGets, RightGets, Clash}
@@ -21,9 +20,9 @@ source_of (Agreed h) Left = LeftRow h.l
 source_of (Agreed h) Right = RightRow h.r
 source_of (LeftGets h) t = RightPart h.r
 source_of (RightGets h) t = LeftPart h.l
-source_of (Clash h p) Archive = OldPart h.o
-source_of (Clash h p) Left = LeftPart h.l
-source_of (Clash h p) Right = RightPart h.r
+source_of (Clash h) Archive = OldPart h.o
+source_of (Clash h) Left = LeftPart h.l
+source_of (Clash h) Right = RightPart h.r
 
 abbrev pub source_words : List ℕ → List ℕ → List ℕ → Source → List ℕ
 source_words o l r (OldPart i) = subtree o i
@@ -51,15 +50,15 @@ abbrev pub piece_of : Tree → List ℕ → List ℕ → List ℕ → Decision �
 piece_of t o l r (Agreed h) = taken t o l r (Agreed h)
 piece_of t o l r (LeftGets h) = named (name_row t l r h) (taken t o l r (LeftGets h))
 piece_of t o l r (RightGets h) = named (name_row t l r h) (taken t o l r (RightGets h))
-piece_of t o l r (Clash h p) = taken t o l r (Clash h p)
+piece_of t o l r (Clash h) = taken t o l r (Clash h)
 
 -- a new tree: the root's row, which is the same in all tables, then the pieces
 unfoldable pub new_tree : Tree → List ℕ → List ℕ → List ℕ → List Decision → List ℕ
 new_tree t o l r ds = row_at l 0 ++ pieces (piece_of t o l r) ds
 
--- an entry of the list: kind, left row, right row, left's place and right's; what is agreed is not listed
+-- an entry of the list: kind, left row, right row; what is agreed is not listed
 abbrev pub piece_list : Decision → List ℕ
 piece_list (Agreed h) = []
-piece_list (LeftGets h) = 1 ∷ h.l ∷ h.r ∷ none ∷ none ∷ []
-piece_list (RightGets h) = 2 ∷ h.l ∷ h.r ∷ none ∷ none ∷ []
-piece_list (Clash h p) = 3 ∷ h.l ∷ h.r ∷ p.l ∷ p.r ∷ []
+piece_list (LeftGets h) = 1 ∷ h.l ∷ h.r ∷ []
+piece_list (RightGets h) = 2 ∷ h.l ∷ h.r ∷ []
+piece_list (Clash h) = 3 ∷ h.l ∷ h.r ∷ []

@@ -21,7 +21,7 @@ pub record Room (u : Outcome) (b : Lent) : Type 0 where
   pub archive : ((counts_of u).archive ≤ 4096) × ((counts_of u).archive ≤ length b.archive / 20)
   pub left : ((counts_of u).left ≤ 4096) × ((counts_of u).left ≤ length b.left / 20)
   pub right : ((counts_of u).right ≤ 4096) × ((counts_of u).right ≤ length b.right / 20)
-  pub list : (counts_of u).list ≤ length b.list / 5
+  pub list : (counts_of u).list ≤ length b.list / 3
 
 pub record Passed (p : Profile) (o l r : List ℕ) (b : Lent) : Type 0 where
   pub archive-passes : Passes p o
@@ -35,7 +35,7 @@ passed p o l r b h =
     let n = counts_of (given p o l r) in
     let t = first-both (tables_due p o l r) _ h in
     let k = tables-passed p o l r t.0 in
-    let last = unless (leb n.list (length b.list / 5)) 3 4 in
+    let last = unless (leb n.list (length b.list / 3)) 3 4 in
     let e = first-passed (unless (room_rule n.archive (length b.archive)) 3 1) _ last t.1 in
     let f = first-passed (unless (room_rule n.left (length b.left)) 3 2) _ last e.1 in
     let g = first-both (unless (room_rule n.right (length b.right)) 3 3) last f.1 in
@@ -47,7 +47,7 @@ passed p o l r b h =
         archive = room-parts n.archive (length b.archive) (unless-true _ 3 1 e.0);
         left = room-parts n.left (length b.left) (unless-true _ 3 2 f.0);
         right = room-parts n.right (length b.right) (unless-true _ 3 3 g.0);
-        list = leb-true n.list (length b.list / 5) (unless-true _ 3 4 g.1);
+        list = leb-true n.list (length b.list / 3) (unless-true _ 3 4 g.1);
       };
     }
 

@@ -44,7 +44,7 @@ run_plain o l r b = record {
     archive = over b.archive (table (given_plain o l r).archive);
     left = over b.left (table (given_plain o l r).left);
     right = over b.right (table (given_plain o l r).right);
-    list = over b.list (list_words (tree_of o) (tree_of l) (tree_of r) (given_plain o l r).lines);
+    list = over b.list (list_words (tree_of l) (tree_of r) (given_plain o l r).lines);
     tally = tally_of (given_plain o l r).lines;
   }) b;
 }

@@ -43,12 +43,12 @@ pub record Rooms (c : Counts) (a l r i : ℕ) : Type 0 where
   pub archive : c.archive ≤ a / 20
   pub left : c.left ≤ l / 20
   pub right : c.right ≤ r / 20
-  pub list : c.list ≤ i / 5
+  pub list : c.list ≤ i / 3
 
 rooms : (c : Counts) (a l r i : ℕ) → is_accepted (rooms_due c a l r i) ≡ true → Rooms c a l r i
 unfolding rooms_due
 rooms c a l r i h =
-    let last = unless (leb c.list (i / 5)) 3 4 in
+    let last = unless (leb c.list (i / 3)) 3 4 in
     let e = first-passed (unless (room_rule c.archive a) 3 1) _ last h in
     let f = first-passed (unless (room_rule c.left l) 3 2) _ last e.1 in
     let g = first-both (unless (room_rule c.right r) 3 3) last f.1 in
@@ -56,14 +56,14 @@ rooms c a l r i h =
       archive = (room-parts c.archive a (unless-true _ 3 1 e.0)).1;
       left = (room-parts c.left l (unless-true _ 3 2 f.0)).1;
       right = (room-parts c.right r (unless-true _ 3 3 g.0)).1;
-      list = leb-true c.list (i / 5) (unless-true _ 3 4 g.1);
+      list = leb-true c.list (i / 3) (unless-true _ 3 4 g.1);
     }
 
 -- an item gives one line at most
-lines-most : (n : ℕ) (p : List ℕ) → length (pieces piece_list (decisions n p)) ≤ 5 * n
+lines-most : (n : ℕ) (p : List ℕ) → length (pieces piece_list (decisions n p)) ≤ 3 * n
 unfolding pieces decisions
 lines-most zero p = omega arith
-lines-most (suc n) p = rw length-append (let h = line-most (decision_of p) in let k = lines-most n (drop 6 p) in omega arith)
+lines-most (suc n) p = rw length-append (let h = line-most (decision_of p) in let k = lines-most n (drop 4 p) in omega arith)
 
 -- what is known when the rooms are tried
 pub record Tried (p : Profile) (o l r : List ℕ) (s e : List ℕ) (q : ℕ) (b : Lent) (c : Counts) (due : Answer) (a : Reconciled) : Type 0 where
@@ -71,7 +71,7 @@ pub record Tried (p : Profile) (o l r : List ℕ) (s e : List ℕ) (q : ℕ) (b 
   pub l-sound : Sound p l
   pub r-sound : Sound p r
   pub planned : Fills s (settled (keyed p o) (keyed p l) (keyed p r)) e q
-  pub counted : c ≡ planned_counts o l r (decisions (q / 6) e)
+  pub counted : c ≡ planned_counts o l r (decisions (q / 4) e)
   pub due-is : due ≡ rooms_due c (length b.archive) (length b.left) (length b.right) (length b.list)
   pub answer-is : a ≡ answer_with due c
 
@@ -79,7 +79,7 @@ module _ {p : Profile} {o l r s e : List ℕ} {q : ℕ} {b : Lent} {c : Counts} 
   counts : c ≡ counts_of (given p o l r)
   counts = T.counted ∙ planned-counts p o l r T.o-sound T.l-sound T.r-sound s e q T.planned
 
-  words : planned_words o l r (decisions (q / 6) e) ≡ outcome_words p o l r
+  words : planned_words o l r (decisions (q / 4) e) ≡ outcome_words p o l r
   words = planned-words p o l r T.o-sound T.l-sound T.r-sound s e q T.planned
 
   due-at : due ≡ room_due p o l r b
@@ -95,10 +95,10 @@ module _ {p : Profile} {o l r s e : List ℕ} {q : ℕ} {b : Lent} {c : Counts} 
     R : Rooms c (length b.archive) (length b.left) (length b.right) (length b.list)
     R = rooms c _ _ _ _ (ap is_accepted (sym T.due-is ∙ h))
 
-    whole : (t : Tree) → length (new_tree t o l r (decisions (q / 6) e)) % 20 ≡ 0
+    whole : (t : Tree) → length (new_tree t o l r (decisions (q / 4) e)) % 20 ≡ 0
     whole = whole-rows p o l r T.o-sound T.l-sound T.r-sound s e q T.planned
 
-    pub spacious : Spacious (planned_words o l r (decisions (q / 6) e)) b.archive b.left b.right b.list
+    pub spacious : Spacious (planned_words o l r (decisions (q / 4) e)) b.archive b.left b.right b.list
     spacious = record {
       archive = omega (arith, R.archive, ap (λ (x : Counts). x.archive) T.counted, whole Archive);
       left = omega (arith, R.left, ap (λ (x : Counts). x.left) T.counted, whole Left);
@@ -107,12 +107,12 @@ module _ {p : Profile} {o l r s e : List ℕ} {q : ℕ} {b : Lent} {c : Counts} 
     }
 
     -- the list's entries, within the words of its buffer
-    pub entries : (x : List ℕ) → length x ≡ length b.list → (5 * c.list ≤ length x) × (c.list ≤ 12288)
+    pub entries : (x : List ℕ) → length x ≡ length b.list → (3 * c.list ≤ length x) × (c.list ≤ 12288)
     entries x i =
         let n = items-most p o l r T.o-sound T.l-sound T.r-sound s e q T.planned in
-        (omega (arith, R.list), omega (arith, ap (λ (x : Counts). x.list) T.counted, lines-most (q / 6) e))
+        (omega (arith, R.list), omega (arith, ap (λ (x : Counts). x.list) T.counted, lines-most (q / 4) e))
 
-    pub settles-accepted : (a' l' r' i' : List ℕ) (t : Tally) → Wrote (planned_words o l r (decisions (q / 6) e)) b.archive b.left b.right b.list a' l' r' i'
+    pub settles-accepted : (a' l' r' i' : List ℕ) (t : Tally) → Wrote (planned_words o l r (decisions (q / 4) e)) b.archive b.left b.right b.list a' l' r' i'
         → t ≡ counted_all c.list i' → Settles p o l r b (lent a' l' r' i' t) a
     settles-accepted a' l' r' i' t w m = record { answered = answered; left_in = rw (← due-at, h) (rw (a-is, l-is, r-is, t-is, i-is) refl) }
       where
@@ -132,7 +132,7 @@ module _ {p : Profile} {o l r s e : List ℕ} {q : ℕ} {b : Lent} {c : Counts} 
         t-is =
             m ∙ ap (λ (x : ℕ). counted_all x i') (ap (λ (x : Counts). x.list) counts)
             ∙ ap (counted_all (counts_of (given p o l r)).list) i-is
-            ∙ counts-list b.list (fold p (tree_of o)) (fold p (tree_of l)) (fold p (tree_of r)) (given p o l r).lines
+            ∙ counts-list b.list (fold p (tree_of l)) (fold p (tree_of r)) (given p o l r).lines
 
 -- tables that are accepted keep the rules
 pub tables-passed : (p : Profile) (o l r : List ℕ) → is_accepted (tables_due p o l r) ≡ true → Passes p o × Passes p l × Passes p r

@@ -62,7 +62,7 @@ rooms_due c archive left right list =
     unless (room_rule c.left left) 3 2 ∷
     unless (room_rule c.right right) 3 3 ∷
     [])
-    (unless (leb c.list (list / 5)) 3 4)
+    (unless (leb c.list (list / 3)) 3 4)
 
 -- what the rooms of a run are due
 abbrev pub room_due : Profile → List ℕ → List ℕ → List ℕ → Lent → Answer
@@ -72,14 +72,14 @@ room_due p o l r b = rooms_due (counts_of (given p o l r)) (length b.archive) (l
 unfoldable pub run_due : Profile → List ℕ → List ℕ → List ℕ → Lent → Answer
 run_due p o l r b = first_refusal (tables_due p o l r ∷ []) (room_due p o l r b)
 
--- what an accepted run leaves: each result at the start of its buffer, the list with the rows and places of its paths, which
--- are keys, and the tally of the list
+-- what an accepted run leaves: each result at the start of its buffer, the list with the rows of its paths, which are keys,
+-- and the tally of the list
 abbrev pub filled : Profile → List ℕ → List ℕ → List ℕ → Lent → Lent
 filled p o l r b = record {
   archive = over b.archive (table (given p o l r).archive);
   left = over b.left (table (given p o l r).left);
   right = over b.right (table (given p o l r).right);
-  list = over b.list (list_words (fold p (tree_of o)) (fold p (tree_of l)) (fold p (tree_of r)) (given p o l r).lines);
+  list = over b.list (list_words (fold p (tree_of l)) (fold p (tree_of r)) (given p o l r).lines);
   tally = tally_of (given p o l r).lines;
 }
 

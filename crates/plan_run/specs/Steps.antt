@@ -46,7 +46,7 @@ planned_counts o l r ds = record {
   archive = length (new_tree Archive o l r ds) / 20;
   left = length (new_tree Left o l r ds) / 20;
   right = length (new_tree Right o l r ds) / 20;
-  list = length (pieces piece_list ds) / 5;
+  list = length (pieces piece_list ds) / 3;
 }
 
 -- there is room for them

@@ -3,23 +3,23 @@ ghost use Rattle.std.specs.Prelude.{◌≡◌, ◌+◌, ◌-◌, ◌≤◌, leng
 ghost use Rattle.plan.specs.Settle.{Three, decision_words, ended, past, firsts, both, entry};
 ghost use Rattle.plan.specs.Writes.{Writes};
 
-use plan_cursor::{Decision, NOWHERE, Rows};
+use plan_cursor::{Decision, Rows};
 
-// A decision's six words.
-fn words_of(d: Decision) -> [u32; 6]
+// A decision's four words.
+fn words_of(d: Decision) -> [u32; 4]
     ensures { result ≡ decision_words d }
 {
     match d {
-        Decision::Agreed(h) => [0, h.o, h.l, h.r, NOWHERE, NOWHERE],
-        Decision::LeftGets(h) => [1, h.o, h.l, h.r, NOWHERE, NOWHERE],
-        Decision::RightGets(h) => [2, h.o, h.l, h.r, NOWHERE, NOWHERE],
-        Decision::Clash(h, p) => [3, h.o, h.l, h.r, p.l, p.r],
+        Decision::Agreed(h) => [0, h.o, h.l, h.r],
+        Decision::LeftGets(h) => [1, h.o, h.l, h.r],
+        Decision::RightGets(h) => [2, h.o, h.l, h.r],
+        Decision::Clash(h) => [3, h.o, h.l, h.r],
     }
 }
 
 // An item into the plan at place at; the next place.
 pub fn push(plan: &mut [u32], at: usize, d: Decision) -> usize
-    requires { at + 6 ≤ length plan.old }
+    requires { at + 4 ≤ length plan.old }
     ensures { Writes plan.old at (decision_words d) plan.new result }
 {
     let words = words_of(d);

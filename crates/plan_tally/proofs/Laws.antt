@@ -18,37 +18,37 @@ use Rattle.plan_tally.specs.Count.{tally_of, counted, counted_all}
 
 -- what is still to be counted from entry i on
 abbrev pub rest : ℕ → ℕ → List ℕ → ℕ → ℕ
-rest k n w i = counted k (n - i) (drop (5 * i) w)
+rest k n w i = counted k (n - i) (drop (3 * i) w)
 
 pub rest_end : (k n : ℕ) (w : List ℕ) (i : ℕ) → n ≤ i → rest k n w i ≡ 0
 unfolding counted
 rest_end k n w i h = let e : n - i ≡ 0 = omega arith in rw e
 
-pub rest-next : (k n : ℕ) (w : List ℕ) (i : ℕ) → i < n → rest k n w i ≡ cond (eqb (get_or w (5 * i) 0) k) 1 0 + rest k n w (i + 1)
+pub rest-next : (k n : ℕ) (w : List ℕ) (i : ℕ) → i < n → rest k n w i ≡ cond (eqb (get_or w (3 * i) 0) k) 1 0 + rest k n w (i + 1)
 unfolding counted
 rest-next k n w i h =
     let e : n - i ≡ suc (n - (i + 1)) = omega arith in
-    let m : 5 * i + 5 ≡ 5 * (i + 1) = omega arith in
-    rw (e, get_or-drop (5 * i) w 0 0, add-zero, drop-drop, m)
+    let m : 3 * i + 3 ≡ 3 * (i + 1) = omega arith in
+    rw (e, get_or-drop (3 * i) w 0 0, add-zero, drop-drop, m)
 
-pub rest-hit : (k n : ℕ) (w : List ℕ) (i : ℕ) → i < n → get_or w (5 * i) 0 ≡ k → rest k n w i ≡ 1 + rest k n w (i + 1)
+pub rest-hit : (k n : ℕ) (w : List ℕ) (i : ℕ) → i < n → get_or w (3 * i) 0 ≡ k → rest k n w i ≡ 1 + rest k n w (i + 1)
 rest-hit k n w i h e = rest-next k n w i h ∙ simp (eq-eqb _ _ e)
 
-pub rest-miss : (k n : ℕ) (w : List ℕ) (i : ℕ) → i < n → (get_or w (5 * i) 0 ≡ k → ⊥) → rest k n w i ≡ rest k n w (i + 1)
+pub rest-miss : (k n : ℕ) (w : List ℕ) (i : ℕ) → i < n → (get_or w (3 * i) 0 ≡ k → ⊥) → rest k n w i ≡ rest k n w (i + 1)
 rest-miss k n w i h e = rest-next k n w i h ∙ simp (ne_eqb _ _ e, zero-add)
 
 one-add : (n : ℕ) → 1 + n ≡ suc n
 one-add n = omega arith
 
 -- the words of some lines, and more words behind them
-counts-lines : (o l r : Forest) (xs : Lines) (w : List ℕ) → counted_all (length xs) (list_words o l r xs ++ w) ≡ tally_of xs
+counts-lines : (l r : Forest) (xs : Lines) (w : List ℕ) → counted_all (length xs) (list_words l r xs ++ w) ≡ tally_of xs
 unfolding counted tally_of words_of kind
-counts-lines o l r [] w = refl
-counts-lines o l r (line p agreed ∷ xs) w = rw (zero-add, zero-add, zero-add) (counts-lines o l r xs w)
-counts-lines o l r (line p left_gets ∷ xs) w = rw (one-add, zero-add, zero-add, sym (counts-lines o l r xs w)) refl
-counts-lines o l r (line p right_gets ∷ xs) w = rw (one-add, zero-add, zero-add, sym (counts-lines o l r xs w)) refl
-counts-lines o l r (line p clash ∷ xs) w = rw (one-add, zero-add, zero-add, sym (counts-lines o l r xs w)) refl
+counts-lines l r [] w = refl
+counts-lines l r (line p agreed ∷ xs) w = rw (zero-add, zero-add, zero-add) (counts-lines l r xs w)
+counts-lines l r (line p left_gets ∷ xs) w = rw (one-add, zero-add, zero-add, sym (counts-lines l r xs w)) refl
+counts-lines l r (line p right_gets ∷ xs) w = rw (one-add, zero-add, zero-add, sym (counts-lines l r xs w)) refl
+counts-lines l r (line p clash ∷ xs) w = rw (one-add, zero-add, zero-add, sym (counts-lines l r xs w)) refl
 
-pub counts-list : (d : List ℕ) (o l r : Forest) (xs : Lines) → counted_all (length xs) (over d (list_words o l r xs)) ≡ tally_of xs
+pub counts-list : (d : List ℕ) (l r : Forest) (xs : Lines) → counted_all (length xs) (over d (list_words l r xs)) ≡ tally_of xs
 unfolding over
-counts-list d o l r xs = counts-lines o l r xs (drop (length (list_words o l r xs)) d)
+counts-list d l r xs = counts-lines l r xs (drop (length (list_words l r xs)) d)

@@ -12,10 +12,10 @@ tally_of (line p left_gets ∷ xs) = let t = tally_of xs in record { left = suc 
 tally_of (line p right_gets ∷ xs) = let t = tally_of xs in record { left = t.left; right = suc t.right; clash = t.clash }
 tally_of (line p clash ∷ xs) = let t = tally_of xs in record { left = t.left; right = t.right; clash = suc t.clash }
 
--- how many of the first n entries, five words each, have a kind
+-- how many of the first n entries, three words each, have a kind
 unfoldable pub counted : ℕ → ℕ → List ℕ → ℕ
 counted k zero w = 0
-counted k (suc n) w = cond (eqb (get_or w 0 0) k) 1 0 + counted k n (drop 5 w)
+counted k (suc n) w = cond (eqb (get_or w 0 0) k) 1 0 + counted k n (drop 3 w)
 
 abbrev pub counted_all : ℕ → List ℕ → Tally
 counted_all n w = record { left = counted 1 n w; right = counted 2 n w; clash = counted 3 n w }

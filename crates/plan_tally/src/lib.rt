@@ -12,13 +12,13 @@ pub struct Tally {
 
 // How many of the first n entries of a list are of a kind.
 fn count_kind(list: &[u32], kind: u32, n: usize) -> u32
-    requires { (5 * n ≤ length list.now) × (n ≤ 12288) }
+    requires { (3 * n ≤ length list.now) × (n ≤ 12288) }
     ensures { result ≡ counted kind n list.now }
 {
     let mut sum: u32 = 0;
     let mut i = 0;
     while i < n {
-        if list[5 * i] == kind {
+        if list[3 * i] == kind {
             sum += 1;
         }
         i += 1;
@@ -28,7 +28,7 @@ fn count_kind(list: &[u32], kind: u32, n: usize) -> u32
 
 // The tally of the first n entries of a list.
 pub fn counts(list: &[u32], n: usize) -> Tally
-    requires { (5 * n ≤ length list.now) × (n ≤ 12288) }
+    requires { (3 * n ≤ length list.now) × (n ≤ 12288) }
     ensures { result ≡ counted_all n list.now }
 {
     let left = count_kind(list, 1, n);

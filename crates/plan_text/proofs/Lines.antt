@@ -19,7 +19,6 @@ use Rattle.settle.specs.Results.{Line.line, Lines}
 use Rattle.settle.specs.Spelled.{outcome_in}
 use Rattle.table_stands.specs.Around.{row_in}
 use Rattle.plan.specs.Items.{row_of, words_of, list_words}
-use Rattle.plan.proofs.Bound.{list_length}
 use Rattle.plan.proofs.Least.{or-present}
 use Rattle.plan_tally.specs.Count.{tally_of}
 use Rattle.table_route.specs.Route.{path_of, spelled_in}
@@ -31,10 +30,17 @@ use Rattle.plan_text.specs.Spelled.{spelled_by, spelled_line, run_text}
 use Rattle.plan_text.proofs.Words.{side_left, side_right}
 use Rattle.plan_text.proofs.Sides.{listed-sided}
 
--- the list in a buffer that it was written over, as the part that code lends
-pub list-part : (o l r : Forest) (d : List ℕ) (xs : Lines) → take (5 * length xs) (over d (list_words o l r xs)) ≡ list_words o l r xs
-unfolding over
-list-part o l r d xs = take_at (list_words o l r xs) (drop (length (list_words o l r xs)) d) (5 * length xs) (list_length o l r xs)
+-- three words a line
+module _ (l r : Forest) where
+  pub length-list : (xs : Lines) → length (list_words l r xs) ≡ 3 * length xs
+  unfolding words_of
+  length-list [] = refl
+  length-list (line p d ∷ xs) = omega (arith, length-list xs)
+
+  -- the list in a buffer that it was written over, as the part that code lends
+  pub list-part : (d : List ℕ) (xs : Lines) → take (3 * length xs) (over d (list_words l r xs)) ≡ list_words l r xs
+  unfolding over
+  list-part d xs = take_at (list_words l r xs) (drop (length (list_words l r xs)) d) (3 * length xs) (length-list xs)
 
 -- the row that a list names for a path of keys, in a table that passes
 module _ (p : Profile) (w : List ℕ) (P : Passes p w) (small : Words32 w) (q : TreePath) where
@@ -72,10 +78,10 @@ module _ (p : Profile) (w v : List ℕ) (W : Passes p w) (U : Passes p v) (w-sma
       go (file c) e s = own (rw e tt)
       go (folder k) e s = own (rw e tt)
 
-  entries-text : (o : Forest) (xs : Lines) → Sided l r xs → entries_text w v (length xs) (list_words o l r xs) ≡ lines_text (map (spelled_line p (tree_of w) (tree_of v)) xs)
+  entries-text : (xs : Lines) → Sided l r xs → entries_text w v (length xs) (list_words l r xs) ≡ lines_text (map (spelled_line p (tree_of w) (tree_of v)) xs)
   unfolding entries_text entry_text lines_text words_of Sided
-  entries-text o [] s = refl
-  entries-text o (line q d ∷ xs) s = rw (side-text q s.0, entries-text o xs s.1)
+  entries-text [] s = refl
+  entries-text (line q d ∷ xs) s = rw (side-text q s.0, entries-text xs s.1)
 
   -- spelling changes no kind
   same-tally : (xs : Lines) → tally_of (map (spelled_line p (tree_of w) (tree_of v)) xs) ≡ tally_of xs
@@ -87,15 +93,15 @@ module _ (p : Profile) (w v : List ℕ) (W : Passes p w) (U : Passes p v) (w-sma
   same-tally (line q clash ∷ xs) = rw (same-tally xs)
 
   -- the list of any lines that stand on a side each
-  plan-text : (o : Forest) (xs : Lines) → Sided l r xs → plan_bytes w v (list_words o l r xs) (tally_of xs) ≡ plan_text (map (spelled_line p (tree_of w) (tree_of v)) xs)
+  plan-text : (xs : Lines) → Sided l r xs → plan_bytes w v (list_words l r xs) (tally_of xs) ≡ plan_text (map (spelled_line p (tree_of w) (tree_of v)) xs)
   unfolding plan_bytes plan_text
-  plan-text o xs s =
-      let n : length (list_words o l r xs) / 5 ≡ length xs = omega (arith, list_length o l r xs) in
-      rw (n, entries-text o xs s, same-tally xs)
+  plan-text xs s =
+      let n : length (list_words l r xs) / 3 ≡ length xs = omega (arith, length-list l r xs) in
+      rw (n, entries-text xs s, same-tally xs)
 
   -- the list of a run
   pub run-text : (o : List ℕ)
       → let xs = (outcome_in p (tree_of o) (tree_of w) (tree_of v)).lines in
-      plan_bytes w v (list_words (fold p (tree_of o)) l r xs) (tally_of xs) ≡ run_text p (tree_of o) (tree_of w) (tree_of v)
+      plan_bytes w v (list_words l r xs) (tally_of xs) ≡ run_text p (tree_of o) (tree_of w) (tree_of v)
   unfolding run_text
-  run-text o = plan-text (fold p (tree_of o)) (outcome_in p (tree_of o) (tree_of w) (tree_of v)).lines (listed-sided (fold p (tree_of o)) l r)
+  run-text o = plan-text (outcome_in p (tree_of o) (tree_of w) (tree_of v)).lines (listed-sided (fold p (tree_of o)) l r)

@@ -26,22 +26,22 @@ module _ (l r : List ℕ) where
     side-none h g = rw (le-ltb i (length l / 20) h, le-ltb j (length r / 20) g)
 
   -- entry k of the words e
-  pub entry-words : (e : List ℕ) (k : ℕ) → entry_text l r (drop (5 * k) e) ≡ marked (get_or e (5 * k) 0) (side_text l r (get_or e (5 * k + 1) 0) (get_or e (5 * k + 2) 0))
+  pub entry-words : (e : List ℕ) (k : ℕ) → entry_text l r (drop (3 * k) e) ≡ marked (get_or e (3 * k) 0) (side_text l r (get_or e (3 * k + 1) 0) (get_or e (3 * k + 2) 0))
   unfolding entry_text
   entry-words e k = rw (get_or-drop, get_or-drop, get_or-drop, add-zero)
 
   -- n entries, of which k are passed
-  pub entries-start : (e : List ℕ) (n : ℕ) → entries_text l r (n - 0) (drop (5 * 0) e) ≡ entries_text l r n e
+  pub entries-start : (e : List ℕ) (n : ℕ) → entries_text l r (n - 0) (drop (3 * 0) e) ≡ entries_text l r n e
   entries-start e n = let a : n - 0 ≡ n = omega arith in rw a
 
   pub entries_next : (e : List ℕ) (n k : ℕ) → k < n
-      → entries_text l r (n - k) (drop (5 * k) e) ≡ entry_text l r (drop (5 * k) e) ++ entries_text l r (n - (k + 1)) (drop (5 * (k + 1)) e)
+      → entries_text l r (n - k) (drop (3 * k) e) ≡ entry_text l r (drop (3 * k) e) ++ entries_text l r (n - (k + 1)) (drop (3 * (k + 1)) e)
   unfolding entries_text
   entries_next e n k h =
       let a : n - k ≡ suc (n - (k + 1)) = omega arith in
-      let b : 5 * k + 5 ≡ 5 * (k + 1) = omega arith in
+      let b : 3 * k + 3 ≡ 3 * (k + 1) = omega arith in
       rw (a, drop-drop, b)
 
-  pub entries-end : (e : List ℕ) (n k : ℕ) → n ≤ k → entries_text l r (n - k) (drop (5 * k) e) ≡ []
+  pub entries-end : (e : List ℕ) (n k : ℕ) → n ≤ k → entries_text l r (n - k) (drop (3 * k) e) ≡ []
   unfolding entries_text
   entries-end e n k h = let a : n - k ≡ 0 = omega arith in rw a

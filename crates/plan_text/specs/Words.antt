@@ -10,15 +10,15 @@ use Rattle.plan_text.specs.Text.{marked, path_text, counts_text}
 unfoldable pub side_text : List ℕ → List ℕ → ℕ → ℕ → List ℕ
 side_text l r i j = cond (is_row l i) (path_text (path_of l i)) (cond (is_row r j) (path_text (path_of r j)) [])
 
--- the first entry of e: its kind and its rows
+-- the first three words of e
 unfoldable pub entry_text : List ℕ → List ℕ → List ℕ → List ℕ
 entry_text l r e = marked (get_or e 0 0) (side_text l r (get_or e 1 0) (get_or e 2 0))
 
 -- the first n entries
 unfoldable pub entries_text : List ℕ → List ℕ → ℕ → List ℕ → List ℕ
 entries_text l r zero e = []
-entries_text l r (suc n) e = entry_text l r e ++ entries_text l r n (drop 5 e)
+entries_text l r (suc n) e = entry_text l r e ++ entries_text l r n (drop 3 e)
 
 -- all entries, and the counts
 unfoldable pub plan_bytes : List ℕ → List ℕ → List ℕ → Tally → List ℕ
-plan_bytes l r e t = entries_text l r (length e / 5) e ++ counts_text t
+plan_bytes l r e t = entries_text l r (length e / 3) e ++ counts_text t

@@ -27,13 +27,13 @@ pub fn put_entry(
     left: &[u32],
     right: &[u32],
 ) -> usize
-    requires { (5 * k + 5 ≤ length list.now) × (length left.now ≤ 81920) × (length right.now ≤ 81920) × (at + 2 ^ 21 < 2 ^ 64) }
-    ensures { Puts out.old at (entry_text left.now right.now (drop (5 * k) list.now)) (2 ^ 21) result out.new }
+    requires { (3 * k + 3 ≤ length list.now) × (length left.now ≤ 81920) × (length right.now ≤ 81920) × (at + 2 ^ 21 < 2 ^ 64) }
+    ensures { Puts out.old at (entry_text left.now right.now (drop (3 * k) list.now)) (2 ^ 21) result out.new }
 {
-    let p = put_mark(out, at, list[5 * k]);
+    let p = put_mark(out, at, list[3 * k]);
     let q = listing_spell::put_all(out, p, b" ");
-    let i = table_row::wide(list[5 * k + 1]);
-    let j = table_row::wide(list[5 * k + 2]);
+    let i = table_row::wide(list[3 * k + 1]);
+    let j = table_row::wide(list[3 * k + 2]);
     let s = plan_text_path::put_side(out, q, left, i, right, j);
     listing_spell::put_all(out, s, b"\n")
 }

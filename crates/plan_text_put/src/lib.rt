@@ -7,9 +7,9 @@ ghost use Rattle.plan_text.specs.Words.{entries_text, plan_bytes};
 // The lines of all entries.
 fn put_entries(out: &mut [u8], at: usize, list: &[u32], left: &[u32], right: &[u32]) -> usize
     requires { (length list.now ≤ 36864) × (length left.now ≤ 81920) × (length right.now ≤ 81920) × (at + 2 ^ 35 < 2 ^ 64) }
-    ensures { Puts out.old at (entries_text left.now right.now (length list.now / 5) list.now) (2 ^ 35) result out.new }
+    ensures { Puts out.old at (entries_text left.now right.now (length list.now / 3) list.now) (2 ^ 35) result out.new }
 {
-    let n = list.len() / 5;
+    let n = list.len() / 3;
     let mut p = at;
     let mut k = 0;
     while k < n {

@@ -11,7 +11,7 @@ use plan_results::Tree;
 pub fn count_tree(o: &[u32], l: &[u32], r: &[u32], tree: Tree, plan: &[u32], n: usize) -> usize
     requires three { Three o.now l.now r.now }
     requires in_bounds { 20 ≤ length l.now }
-    requires n_in_bounds { (6 * n ≤ length plan.now) × (n ≤ 12288) }
+    requires n_in_bounds { (4 * n ≤ length plan.now) × (n ≤ 12288) }
     ensures { result ≡ length (new_tree tree o.now l.now r.now (decisions n plan.now)) }
 {
     let mut sum = 20;
@@ -36,7 +36,7 @@ pub fn write_tree(
 ) -> usize
     requires three { Three o.now l.now r.now }
     requires in_bounds { 20 ≤ length l.now }
-    requires n_in_bounds { 6 * n ≤ length plan.now }
+    requires n_in_bounds { 4 * n ≤ length plan.now }
     requires plan_in_bounds { length (new_tree tree o.now l.now r.now (decisions n plan.now)) ≤ length out.old }
     ensures { Fills out.old (new_tree tree o.now l.now r.now (decisions n plan.now)) out.new result }
 {

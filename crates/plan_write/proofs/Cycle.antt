@@ -12,17 +12,17 @@ use Rattle.plan_cursor.specs.Cursor.{least, decision}
 use Rattle.plan_cursor.specs.declared.Rows.{Rows}
 use Rattle.plan_cursor.specs.declared.Decision.{Decision}
 use Rattle.plan_cursor.specs.declared.Decision.TheVariants.{Agreed, LeftGets, RightGets, Clash}
-use Rattle.plan.specs.Settle.{nowhere, six, decision_words, ended, past, merge, flatten, firsts, both, entry, folder}
+use Rattle.plan.specs.Settle.{four, decision_words, ended, past, merge, flatten, firsts, both, entry, folder}
 use Rattle.plan.specs.Writes.{Writes}
 use Rattle.plan.proofs.Ended.{least-ended}
 use Rattle.plan.proofs.Writes.{then, onward}
 
-pub length-words : (x : Decision) → length (decision_words x) ≡ 6
+pub length-words : (x : Decision) → length (decision_words x) ≡ 4
 unfolding decision_words
 length-words (Agreed h) = refl
 length-words (LeftGets h) = refl
 length-words (RightGets h) = refl
-length-words (Clash h p) = refl
+length-words (Clash h) = refl
 
 merge-next : (o l r : List ℕ) (d m : ℕ) (h : Rows) → 0 < m → ended o l r h ≡ false
     → merge o l r d m h ≡ least o l r h ∷ merge o l r d (m - 1) (past o l r d h (least o l r h))
@@ -32,7 +32,7 @@ merge-next o l r d (suc m) h p e = rw (least-ended, e, sub-one)
 
 module _ (o l r : List ℕ) where
   pub entry-folder : (k d : ℕ) (h : Rows) → 0 < k → both l r h ≡ true
-      → entry o l r k d h ≡ six 0 h nowhere ++ folder o l r (k - 1) (d + 1) (firsts o l r (d + 1) h)
+      → entry o l r k d h ≡ four 0 h ++ folder o l r (k - 1) (d + 1) (firsts o l r (d + 1) h)
   unfolding entry
   entry-folder zero d h p e = absurd (not-suc-le-zero p)
   entry-folder (suc k) d h p e = rw (e, sub-one)

@@ -14,7 +14,7 @@ pub fn put_run(profile: Profile, out: &mut [u8], o: &[u32], l: &[u32], r: &[u32]
     let mut archive = [0u32; 7640];
     let mut left = [0u32; 7640];
     let mut right = [0u32; 7640];
-    let mut list = [0u32; 1910];
+    let mut list = [0u32; 1146];
     let none = plan_tally::Tally {
         left: 0,
         right: 0,
@@ -32,6 +32,6 @@ pub fn put_run(profile: Profile, out: &mut [u8], o: &[u32], l: &[u32], r: &[u32]
         none,
     );
     let answer = ran.answer;
-    let end = 5 * answer.list;
+    let end = 3 * answer.list;
     plan_text_put::put_plan(out, 0, &list[..end], l, r, ran.tally)
 }

@@ -67,7 +67,7 @@ pub record Ample (b : Lent) : Type 0 where
   pub archive : length b.archive ≡ 7640
   pub left : length b.left ≡ 7640
   pub right : length b.right ≡ 7640
-  pub list : length b.list ≡ 1910
+  pub list : length b.list ≡ 1146
 
 module _ (p : Profile) (o l r : List ℕ) (O : IsTable p o) (L : IsTable p l) (R : IsTable p r) where
   -- the trees of keys
@@ -132,7 +132,7 @@ module _ (p : Profile) (o l r : List ℕ) (O : IsTable p o) (L : IsTable p l) (R
     unfolding run_of
     entries = rw (C.answered, due)
 
-    listed : a.list ≡ over b.list (list_words fo fl fr (given p o l r).lines)
+    listed : a.list ≡ over b.list (list_words fl fr (given p o l r).lines)
     unfolding run_of
     listed = rw (C.left_in, due)
 
@@ -140,15 +140,15 @@ module _ (p : Profile) (o l r : List ℕ) (O : IsTable p o) (L : IsTable p l) (R
     unfolding run_of
     counted = rw (C.left_in, due)
 
-    pub entries-few : 5 * answer.list ≤ 1910
+    pub entries-few : 3 * answer.list ≤ 1146
     entries-few = let h = sum in let n = lines-bound fo fl fr so sl sr in rw entries (omega arith)
 
     -- what is put for the entries that the answer counts is the plan
-    pub put-plan : (d : List ℕ) (most next : ℕ) (after : List ℕ) → Words32 l → Words32 r → Puts d 0 (plan_bytes l r (take (5 * answer.list) a.list) a.tally) most next after
+    pub put-plan : (d : List ℕ) (most next : ℕ) (after : List ℕ) → Words32 l → Words32 r → Puts d 0 (plan_bytes l r (take (3 * answer.list) a.list) a.tally) most next after
         → Puts d 0 (run_text p (tree_of o) (tree_of l) (tree_of r)) 1048576 next after
     put-plan d most next after wl wr q =
-        let e : plan_bytes l r (take (5 * answer.list) a.list) a.tally ≡ run_text p (tree_of o) (tree_of l) (tree_of r) =
-        rw (entries, listed, counted, list-part fo fl fr b.list (given p o l r).lines) (run-text p l r (passes p l L) (passes p r R) wl wr o) in
+        let e : plan_bytes l r (take (3 * answer.list) a.list) a.tally ≡ run_text p (tree_of o) (tree_of l) (tree_of r) =
+        rw (entries, listed, counted, list-part fl fr b.list (given p o l r).lines) (run-text p l r (passes p l L) (passes p r R) wl wr o) in
         let u = rw e at q in
         let n = run_length p (tree_of o) (tree_of l) (tree_of r) (formed p o O) (formed p l L) (formed p r R) in
         let c = u.counted in

@@ -1,3 +1,3 @@
 -- Laws of runs and searches that callers cite, and of two subtrees compared.
 pub mod Walk
-pub mod Compare
+pub mod Same

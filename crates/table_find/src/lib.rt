@@ -1,8 +1,8 @@
-// Where a row's subtree ends, its words, and two subtrees compared.
-ghost use Rattle.std.specs.Prelude.{◌≡◌, ◌+◌, ◌*◌, ◌%◌, ◌≤◌, length};
-ghost use Rattle.table_find.specs.Subtree.{end_of, subtree, goes_on, compared_rows};
-
-use tree::Compared;
+// Where a row's subtree ends, its words, and whether two subtrees are the same.
+ghost use Rattle.std.specs.Prelude.{◌≡◌, true, ◌+◌, ◌*◌, ◌%◌, ◌≤◌, length};
+ghost use Rattle.tree.specs.Same.{same_words};
+ghost use Rattle.table_row.specs.Table.{row_at};
+ghost use Rattle.table_find.specs.Subtree.{end_of, subtree};
 
 // The row of an entry, or that there is none.
 #[derive(Drop)]
@@ -44,54 +44,42 @@ pub fn part(t: &[u32], i: u32) -> &[u32]
     }
 }
 
-// Whether row e is there and deeper than d: a subtree of depth d that has come to it goes on.
-fn goes_on(t: &[u32], e: usize, d: u32) -> bool
-    ensures { result ≡ goes_on t.now e d }
+// Whether the subtrees at row i of w and row j of v are the same where these rows are: as many rows, and each the same.
+fn same_below(w: &[u32], i: usize, v: &[u32], j: usize) -> bool
+    requires { (20 * (i + 1) ≤ length w.now) × (20 * (j + 1) ≤ length v.now) × (same_words (row_at w.now i) (row_at v.now j) ≡ true) }
+    ensures { result ≡ same_words (subtree w.now i) (subtree v.now j) }
 {
-    if e < t.len() / 20 {
-        d < t[20 * e]
-    } else {
-        false
+    let n = subtree_end(w, i) - i;
+    let m = subtree_end(v, j) - j;
+    if n != m {
+        return false;
     }
-}
-
-// The subtrees at row i of w and row j of v compared, where both rows are there: row after row, as long as they are the same and
-// both go on.
-fn compare_there(w: &[u32], i: usize, v: &[u32], j: usize) -> Compared
-    requires { (20 * (i + 1) ≤ length w.now) × (20 * (j + 1) ≤ length v.now) × (length w.now ≤ 81920) }
-    ensures { result ≡ compared_rows w.now i v.now j }
-{
-    let d = w[20 * i];
-    let mut k = 0;
-    while table_row::same_rows(w, i + k, v, j + k) {
-        k += 1;
-        let more = goes_on(w, i + k, d);
-        if more != goes_on(v, j + k, d) {
-            return Compared::DifferAt(k as u32);
-        }
-        if !more {
-            return Compared::Equal;
+    let mut k = 1;
+    while k < n {
+        if table_row::same_rows(w, i + k, v, j + k) {
+            k += 1;
+        } else {
+            return false;
         }
     }
-    Compared::DifferAt(k as u32)
+    true
 }
 
-// The subtrees at row i of w and row j of v compared; a row that is not there has no subtree.
-pub fn compare_subtrees(w: &[u32], i: u32, v: &[u32], j: u32) -> Compared
-    requires { length w.now ≤ 81920 }
-    ensures { result ≡ compared_rows w.now i v.now j }
+// Whether the subtrees at row i of w and row j of v are the same; a row that is not there has no words. The rows themselves are
+// compared before the ends of their subtrees are looked for.
+pub fn same_subtrees(w: &[u32], i: u32, v: &[u32], j: u32) -> bool
+    requires { (length w.now % 20 ≡ 0) × (length v.now % 20 ≡ 0) }
+    ensures { result ≡ same_words (subtree w.now i) (subtree v.now j) }
 {
     let a = table_row::wide(i);
     let b = table_row::wide(j);
     if a < w.len() / 20 {
         if b < v.len() / 20 {
-            return compare_there(w, a, v, b);
+            if table_row::same_rows(w, a, v, b) {
+                return same_below(w, a, v, b);
+            }
         }
-        return Compared::DifferAt(0);
+        return false;
     }
-    if b < v.len() / 20 {
-        Compared::DifferAt(0)
-    } else {
-        Compared::Equal
-    }
+    b >= v.len() / 20
 }

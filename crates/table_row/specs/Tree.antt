@@ -1,9 +1,8 @@
 -- The table of a tree and the tree of a table: rows in preorder, each with its depth.
 use Rattle.std.specs.Prelude.{List, [], ◌∷◌, ◌++◌, cond, eqb, drop, get_or}
-use Prim.Native.Nat.{ℕ, zero, suc, ◌+◌, compare}
+use Prim.Native.Nat.{ℕ, suc, compare}
 use Rattle.tree.specs.Name.{Name, by_order}
 use Rattle.tree.specs.Forest.{Content, Forest, Forest.end, Forest.leaf, Forest.dir, Node, Node.absent, Node.file, Node.folder}
-use Rattle.tree.specs.Preorder.{Entry, Entry.file_at, Entry.folder_at}
 use Rattle.table_row.specs.Table.{Row, rows, flat, depth, kind, name, content}
 
 abbrev pub file_row : ℕ → Name → Content → Row
@@ -23,13 +22,6 @@ unfoldable pub node_rows : ℕ → Name → Node → List Row
 node_rows d n absent = []
 node_rows d n (file c) = file_row d n c ∷ []
 node_rows d n (folder k) = folder_row d n ∷ rows_of (suc d) k
-
--- an entry's row, where the entries are those of a node called n at depth d
-unfoldable pub entry_row : ℕ → Name → Entry → Row
-entry_row d n (file_at zero m c) = file_row d n c
-entry_row d n (file_at (suc e) m c) = file_row (d + suc e) m c
-entry_row d n (folder_at zero m) = folder_row d n
-entry_row d n (folder_at (suc e) m) = folder_row (d + suc e) m
 
 -- the root's name is all zero
 abbrev pub root_name : Name

@@ -1,5 +1,5 @@
 // The words of a tree table, twenty to a row: one word, words compared, words copied.
-ghost use Rattle.std.specs.Prelude.{◌≡◌, ◌+◌, ◌*◌, ◌≤◌, ◌<◌, length, take, drop, get_or};
+ghost use Rattle.std.specs.Prelude.{◌≡◌, ◌+◌, ◌*◌, ◌≤◌, ◌<◌, length, get_or};
 ghost use Rattle.tree.specs.Same.{same_words};
 ghost use Rattle.table_row.specs.Table.{row_at};
 ghost use Rattle.table_row.specs.Buffer.{written};
@@ -27,29 +27,34 @@ pub fn wide(x: u32) -> usize
     x as usize
 }
 
-// Whether the four words from place p of a and from place q of b are the same. All are looked at, so that there is one jump for
-// the four.
-fn same_four(a: &[u32], p: usize, b: &[u32], q: usize) -> bool
-    requires { (p + 4 ≤ length a.now) × (q + 4 ≤ length b.now) }
-    ensures { result ≡ same_words (take 4 (drop p a.now)) (take 4 (drop q b.now)) }
+// Whether two lists of words are the same, from the last word back: a day and its correction have one name and differ in
+// the digest, which stands last.
+pub fn same_words(a: &[u32], b: &[u32]) -> bool
+    ensures { result ≡ same_words a.now b.now }
 {
-    (a[p] == b[q]) & (a[p + 1] == b[q + 1]) & (a[p + 2] == b[q + 2]) & (a[p + 3] == b[q + 3])
-}
-
-// Whether row i of a and row j of b are the same, from the last four words back: a day and its correction have one name and
-// differ in the digest, which stands last.
-pub fn same_rows(a: &[u32], i: usize, b: &[u32], j: usize) -> bool
-    requires { (20 * i + 20 ≤ length a.now) × (20 * j + 20 ≤ length b.now) }
-    ensures { result ≡ same_words (row_at a.now i) (row_at b.now j) }
-{
-    let mut k = 20;
+    if a.len() != b.len() {
+        return false;
+    }
+    let mut k = a.len();
     while k > 0 {
-        k -= 4;
-        if !same_four(a, 20 * i + k, b, 20 * j + k) {
+        k -= 1;
+        if a[k] != b[k] {
             return false;
         }
     }
     true
+}
+
+// Whether row i of a and row j of b are the same.
+pub fn same_rows(a: &[u32], i: usize, b: &[u32], j: usize) -> bool
+    requires { (20 * i + 20 ≤ length a.now) × (20 * j + 20 ≤ length b.now) }
+    ensures { result ≡ same_words (row_at a.now i) (row_at b.now j) }
+{
+    let p = 20 * i;
+    let pe = p + 20;
+    let q = 20 * j;
+    let qe = q + 20;
+    same_words(&a[p..pe], &b[q..qe])
 }
 
 // All of src into dst at place at; the next place.

@@ -34,12 +34,12 @@ module _ (d : ℕ) (n : Name) (r : Row) where
   against-deep h e = rw (lt-ltb _ _ h, ne_eqb _ _ e)
 
 -- one of three, by an order as the code answers it
-abbrev pub by_answer-ordered : {A : Type 0} → Order → A → A → A → A
-by_answer-ordered Less x y z = x
-by_answer-ordered Same x y z = y
-by_answer-ordered Greater x y z = z
+abbrev pub by_answer : {A : Type 0} → Order → A → A → A → A
+by_answer Less x y z = x
+by_answer Same x y z = y
+by_answer Greater x y z = z
 
-by_answer-ordered : {A : Type 0} (o : Ordering) (x y z : A) → by_order o x y z ≡ by_answer-ordered (ordered o) x y z
+by_answer-ordered : {A : Type 0} (o : Ordering) (x y z : A) → by_order o x y z ≡ by_answer (ordered o) x y z
 by_answer-ordered Ordering.lt x y z = refl
 by_answer-ordered Ordering.eq x y z = refl
 by_answer-ordered Ordering.gt x y z = refl
@@ -75,7 +75,7 @@ module _ (p : Profile) (w : List ℕ) (i : ℕ) where
     depth-keyed = rw (row-keyed, row-has-key.depth_is, depth-at)
 
 pub start-past : (p : Profile) (w : List ℕ) (f last : ℕ) (n : Name) (o : Order) → o ≡ ordered (cmp (key p n) (key p (name_part w last))) → f < last
-    → 20 * (last + 1) ≤ length w → start_of (keyed p w) f last (key p n) ≡ by_answer-ordered o (f + 1) (f + 1) (last + 1)
+    → 20 * (last + 1) ≤ length w → start_of (keyed p w) f last (key p n) ≡ by_answer o (f + 1) (f + 1) (last + 1)
 start-past p w f last n o e h g =
     rw (lt-ltb f last h, by_answer-ordered (cmp (key p n) (name (row_at (keyed p w) last))) (f + 1) (f + 1) (last + 1), e, name-keyed p w last g)
 
@@ -85,7 +85,7 @@ module _ (p : Profile) (w : List ℕ) (d : ℕ) (n : Name) (i : ℕ) where
   spot-end h = rw (keyed-end p w i h)
 
   pub spot-at : (o : Order) → o ≡ ordered (against d n (keyed_row p (row_at w i))) → i < length w / 20
-      → spot_in n d i (drop i (rows (keyed p w))) ≡ by_answer-ordered o (Free i) Taken (spot_in n d (i + 1) (drop (i + 1) (rows (keyed p w))))
+      → spot_in n d i (drop i (rows (keyed p w))) ≡ by_answer o (Free i) Taken (spot_in n d (i + 1) (drop (i + 1) (rows (keyed p w))))
   unfolding spot_in
   spot-at o e h =
       rw (keyed-cons p w i h, add-one, by_answer-ordered (against d n (keyed_row p (row_at w i))) (Free i) Taken (spot_in n d (suc i) (drop (suc i) (rows (keyed p w)))), e)

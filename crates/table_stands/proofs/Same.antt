@@ -1,118 +1,99 @@
--- Two nodes of one name and depth are compared by their rows as they are by their entries.
-use mathlib.Core.Path.{◌≡◌, refl, sym, ap, ◌∙◌}
-use mathlib.Core.List.{List, [], ◌∷◌, ◌++◌, append-nil, append_assoc}
-use mathlib.Core.Bool.{false, cond}
+-- Two nodes of one name and depth are the same exactly when their words are.
+use mathlib.Core.Path.{◌≡◌, refl, sym, ap, subst, ◌∙◌}
+use mathlib.Core.List.{List, [], ◌∷◌, ◌++◌, append_assoc, append-nil}
+use mathlib.Core.Bool.{Bool, true, false}
 use native.Mathlib.Omega.{arith}
-use lib.Dec.{eqb}
 use lib.ListN.{length, drop, get_or}
 use lib.Seq.{drop_at, drop-cons}
-use Prim.Native.Nat.{ℕ, zero, suc, ◌+◌, ◌-◌, ◌<◌}
-use borrow.Author.Tests.{ne_eqb, lt-ltb, le-ltb}
+use Prim.Native.Nat.{ℕ, suc, ◌%◌, ◌≤◌, ◌<◌}
 use Rattle.tree.specs.Name.{Name}
 use Rattle.tree.specs.Forest.{Content, Forest, Forest.end, Forest.leaf, Forest.dir, Node, Node.absent, Node.file, Node.folder}
-use Rattle.tree.specs.Rules.{NameRule, ContentRule}
-use Rattle.tree.specs.Same.{same_words}
-use Rattle.tree.specs.Preorder.{Entry, Entry.file_at, Entry.folder_at, same_entry, entries, preorder, compare_by, compared}
+use Rattle.tree.specs.Rules.{ContentRule}
+use Rattle.tree.specs.Same.{same_words, same_node}
+use Rattle.table_row.specs.Table.{Row, flat, rows, kind, name, content}
+use Rattle.table_row.specs.Tree.{file_row, folder_row, rows_of, node_rows}
+use Rattle.table_find.specs.Subtree.{subtree}
+use Rattle.tree.proofs.Same.{same_words-refl, same_words-eq, same_node-eq, same_node-true}
 use Rattle.tree.proofs.Never.{never}
-use Rattle.tree.proofs.Same.{same_words-refl, same_words-eq}
-use Rattle.tree.proofs.Preorder.{All, compare-map, compare-cong, entry-test}
-use Rattle.table_row.specs.Table.{Row, rows, depth, kind, name, content}
-use Rattle.table_row.specs.Tree.{file_row, folder_row, rows_of, node_rows, entry_row}
-use Rattle.table_row.proofs.Table.{rows-nil}
-use Rattle.table_row.proofs.Preorder.{node-rows}
-use Rattle.table_find.specs.Subtree.{deeper, first_tree, compared_rows}
+use Rattle.table_row.proofs.Flat.{rows-flat}
 use Rattle.table_stands.specs.Stands.{Ended, StandsOr, Ruled, RuledNode}
-use Rattle.table_stands.proofs.Forest.{file-name, folder-name}
+use Rattle.table_stands.proofs.Subtree.{held-words}
+use Rattle.table_stands.proofs.Forest.{ended-up, ended-rows, file-name, folder-name, wide-node_rows}
 
--- ENTRIES AND ROWS ARE ONE TO ONE
 file-content : (d : ℕ) (n : Name) (c : Content) → length n ≡ 8 → ContentRule c → content (file_row d n c) ≡ c
 file-content d n c h r =
     let k : 0 < length c = (let e = r.eleven in omega arith) in
     ap (λ (l : List ℕ). get_or c 0 0 ∷ l) (drop_at n (drop 1 c) 8 h) ∙ sym (drop-cons c 0 0 k)
 
--- as a table's rules have it; the node's own entry has no name
-abbrev RuledEntry : Entry → Type 0
-RuledEntry (file_at zero n c) = (n ≡ []) × ContentRule c
-RuledEntry (file_at (suc d) n c) = NameRule n × ContentRule c
-RuledEntry (folder_at zero n) = n ≡ []
-RuledEntry (folder_at (suc d) n) = NameRule n
+too-deep : {P : Type 0} (d : ℕ) (a b : List Row) (r : Row) → Ended d a → get_or r 0 0 ≡ suc d → a ≡ r ∷ b → P
+too-deep d a b r h e q = absurd (let k : get_or r 0 0 ≤ d = subst (Ended d) q h in omega arith)
 
--- the entry of a row, where the node is at depth d
-entry_in : ℕ → Row → Entry
-entry_in d r =
-    let e = depth r - d in
-    let n = cond (eqb e 0) [] (name r) in
-    cond (eqb (kind r) 0) (folder_at e n) (file_at e n (content r))
+-- a file's row is no folder's
+other-kind : {P : Type 0} (d e : ℕ) (n m : Name) (c : Content) (a b : List Row) → ContentRule c → file_row d n c ∷ a ≡ folder_row e m ∷ b → P
+other-kind d e n m c a b r q = absurd (let k : get_or c 0 0 ≡ 0 = cc in let j = r.kind in omega arith)
 
-module _ (d : ℕ) (n : Name) (h : length n ≡ 8) where
-  below : (e : ℕ) → eqb (suc e) 0 ≡ false
-  below e = ne_eqb (suc e) 0 (λ z. never (cc))
+-- rows tell their siblings, and where those end
+rows_same : (d : ℕ) (f g : Forest) (a b : List Row) → Ruled f → Ruled g → Ended d a → Ended d b → rows_of (suc d) f ++ a ≡ rows_of (suc d) g ++ b → (f ≡ g) × (a ≡ b)
+unfolding rows_of Ruled
+rows_same d end end a b r s h k q = (refl, q)
+rows_same d end (leaf m c t) a b r s h k q = too-deep d a (rows_of (suc d) t ++ b) (file_row (suc d) m c) h refl q
+rows_same d end (dir m j t) a b r s h k q = too-deep d a ((rows_of (suc (suc d)) j ++ rows_of (suc d) t) ++ b) (folder_row (suc d) m) h refl q
+rows_same d (leaf n c f) end a b r s h k q = too-deep d b (rows_of (suc d) f ++ a) (file_row (suc d) n c) k refl (sym q)
+rows_same d (leaf n c f) (leaf m e t) a b r s h k q =
+    let x : file_row (suc d) n c ≡ file_row (suc d) m e = cc in
+    let u = rows_same d f t a b r.2 s.2 h k (cc) in
+    let y : n ≡ m = sym (file-name (suc d) n c r.0) ∙ ap name x ∙ file-name (suc d) m e s.0 in
+    let z : c ≡ e = sym (file-content (suc d) n c r.0.eight r.1) ∙ ap content x ∙ file-content (suc d) m e s.0.eight s.1 in
+    (let v = u.0 in cc, u.1)
+rows_same d (leaf n c f) (dir m j t) a b r s h k q = other-kind (suc d) (suc d) n m c (rows_of (suc d) f ++ a) ((rows_of (suc (suc d)) j ++ rows_of (suc d) t) ++ b) r.1 q
+rows_same d (dir n i f) end a b r s h k q = too-deep d b ((rows_of (suc (suc d)) i ++ rows_of (suc d) f) ++ a) (folder_row (suc d) n) k refl (sym q)
+rows_same d (dir n i f) (leaf m e t) a b r s h k q = other-kind (suc d) (suc d) m n e (rows_of (suc d) t ++ b) ((rows_of (suc (suc d)) i ++ rows_of (suc d) f) ++ a) s.1 (sym q)
+rows_same d (dir n i f) (dir m j t) a b r s h k q =
+    let x : folder_row (suc d) n ≡ folder_row (suc d) m = cc in
+    let p : (rows_of (suc (suc d)) i ++ rows_of (suc d) f) ++ a ≡ (rows_of (suc (suc d)) j ++ rows_of (suc d) t) ++ b = cc in
+    let o = sym (append_assoc (rows_of (suc (suc d)) i) (rows_of (suc d) f) a) ∙ p ∙ append_assoc (rows_of (suc (suc d)) j) (rows_of (suc d) t) b in
+    let u = rows_same (suc d) i j (rows_of (suc d) f ++ a) (rows_of (suc d) t ++ b) r.1 s.1 (ended-rows (suc d) f a (ended-up d a h)) (ended-rows (suc d) t b (ended-up d b k)) o in
+    let v = rows_same d f t a b r.2 s.2 h k u.1 in
+    let y : n ≡ m = sym (folder-name (suc d) n r.0) ∙ ap name x ∙ folder-name (suc d) m s.0 in
+    (let z = u.0 in let l = v.0 in cc, v.1)
 
-  entry-back : (x : Entry) → RuledEntry x → entry_in d (entry_row d n x) ≡ x
-  unfolding entry_in entry_row
-  entry-back (file_at zero m c) r =
-      let z : d - d ≡ 0 = omega arith in
-      let k : get_or c 0 0 ≡ 0 → ⊥ = omega (arith, r.1.kind) in
-      rw (z, ne_eqb (get_or c 0 0) 0 k, file-content d n c h r.1, r.0)
-  entry-back (file_at (suc e) m c) r =
-      let z : d + suc e - d ≡ suc e = omega arith in
-      let k : get_or c 0 0 ≡ 0 → ⊥ = omega (arith, r.1.kind) in
-      rw (z, ne_eqb (get_or c 0 0) 0 k, below e, file-content (d + suc e) m c r.0.eight r.1, file-name (d + suc e) m c r.0)
-  entry-back (folder_at zero m) r = let z : d - d ≡ 0 = omega arith in rw (z, r)
-  entry-back (folder_at (suc e) m) r = let z : d + suc e - d ≡ suc e = omega arith in rw (z, below e, folder-name (d + suc e) m r)
-
-  row-test : (x y : Entry) → RuledEntry x → RuledEntry y → same_words (entry_row d n x) (entry_row d n y) ≡ same_entry x y
-  row-test x y r s =
-      entry-test x y (same_words (entry_row d n x) (entry_row d n y)) (λ e. rw e (same_words-refl (entry_row d n y)))
-      (λ e. sym (entry-back x r) ∙ ap (entry_in d) (same_words-eq (entry_row d n x) (entry_row d n y) e) ∙ entry-back y s)
-
-all_append : (P : Entry → Type 0) (xs ys : List Entry) → All P xs → All P ys → All P (xs ++ ys)
-unfolding All
-all_append P [] ys a b = b
-all_append P (x ∷ xs) ys a b = (a.0, all_append P xs ys a.1 b)
-
-ruled-entries : (d : ℕ) (f : Forest) → Ruled f → All RuledEntry (entries (suc d) f)
-unfolding All entries Ruled
-ruled-entries d end r = tt
-ruled-entries d (leaf n c s) r = ((r.0, r.1), ruled-entries d s r.2)
-ruled-entries d (dir n k s) r = (r.0, all_append RuledEntry (entries (suc (suc d)) k) (entries (suc d) s) (ruled-entries (suc d) k r.1) (ruled-entries d s r.2))
-
-ruled-preorder : (x : Node) → RuledNode x → All RuledEntry (preorder x)
-unfolding All preorder
-ruled-preorder absent r = tt
-ruled-preorder (file c) r = ((refl, r), tt)
-ruled-preorder (folder k) r = (refl, ruled-entries 0 k r)
-
-compared-nodes : (d : ℕ) (n : Name) (x y : Node) → length n ≡ 8 → RuledNode x → RuledNode y → compare_by same_words (node_rows d n x) (node_rows d n y) ≡ compared x y
-unfolding compared
-compared-nodes d n x y h r s =
-    rw (node-rows d n x, node-rows d n y)
-    (compare-map same_words (entry_row d n) (preorder x) (preorder y)
-    ∙ compare-cong RuledEntry (λ a b. same_words (entry_row d n a) (entry_row d n b)) same_entry (row-test d n h) (preorder x) (preorder y) (ruled-preorder x r) (ruled-preorder y s))
-
--- THE ROWS OF A NODE THAT STANDS AT A ROW
-deeper-ended : (d : ℕ) (rs : List Row) → Ended d rs → deeper d rs ≡ []
-unfolding deeper
-deeper-ended d [] h = refl
-deeper-ended d (r ∷ rs) h = rw (le-ltb _ _ h)
-
-deeper-rows : (d e : ℕ) (f : Forest) (rs : List Row) → d < e → deeper d (rows_of e f ++ rs) ≡ rows_of e f ++ deeper d rs
-unfolding deeper rows_of
-deeper-rows d e end rs h = refl
-deeper-rows d e (leaf n c s) rs h = rw (lt-ltb d e h, deeper-rows d e s rs h)
-deeper-rows d e (dir n k s) rs h =
-    let g : d < suc e = omega arith in
-    rw (lt-ltb d e h, append_assoc (rows_of (suc e) k) (rows_of e s) rs, deeper-rows d (suc e) k (rows_of e s ++ rs) g, deeper-rows d e s rs h)
-    (ap (λ (x : List Row). folder_row e n ∷ x) (sym (append_assoc (rows_of (suc e) k) (rows_of e s) (deeper d rs))))
-
-first_rows : (w : List ℕ) (i d : ℕ) (n : Name) (x : Node) → StandsOr w i d n x → first_tree (drop i (rows w)) ≡ node_rows d n x
+node-same : (d : ℕ) (n : Name) (x y : Node) → length n ≡ 8 → RuledNode x → RuledNode y → node_rows d n x ≡ node_rows d n y → x ≡ y
 unfolding node_rows
-first_rows w i d n absent s = rw (rows-nil w i s)
-first_rows w i d n (file c) s = rw (s.here, deeper-ended d s.rest s.ended)
-first_rows w i d n (folder k) s =
-    rw (s.here, deeper-rows d (suc d) k s.rest (omega arith), deeper-ended d s.rest s.ended, append-nil)
+node-same d n absent absent e r s q = refl
+node-same d n absent (file c) e r s q = cc
+node-same d n absent (folder k) e r s q = cc
+node-same d n (file c) absent e r s q = cc
+node-same d n (file c) (file b) e r s q =
+    let x : file_row d n c ≡ file_row d n b = cc in
+    ap file (sym (file-content d n c e r) ∙ ap content x ∙ file-content d n b e s)
+node-same d n (file c) (folder k) e r s q = other-kind d d n n c [] (rows_of (suc d) k) r q
+node-same d n (folder k) absent e r s q = cc
+node-same d n (folder k) (file c) e r s q = other-kind d d n n c [] (rows_of (suc d) k) s (sym q)
+node-same d n (folder k) (folder j) e r s q =
+    let t : rows_of (suc d) k ≡ rows_of (suc d) j = cc in
+    ap folder (rows_same d k j [] [] r s tt tt (append-nil (rows_of (suc d) k) ∙ t ∙ sym (append-nil (rows_of (suc d) j)))).0
+
+-- the test of two nodes' words is the test of the nodes; absence has no words
+pub same_nodes : (d : ℕ) (n : Name) (x y : Node) → length n ≡ 8 → RuledNode x → RuledNode y → same_words (flat (node_rows d n x)) (flat (node_rows d n y)) ≡ same_node x y
+same_nodes d n x y e r s = go (same_words a b) (same_node x y) refl refl
+  where
+    a : List ℕ
+    a = flat (node_rows d n x)
+
+    b : List ℕ
+    b = flat (node_rows d n y)
+
+    back : a ≡ b → x ≡ y
+    back q = node-same d n x y e r s (sym (rows-flat (node_rows d n x) (wide-node_rows d n x e r)) ∙ ap rows q ∙ rows-flat (node_rows d n y) (wide-node_rows d n y e s))
+
+    go : (u v : Bool) → same_words a b ≡ u → same_node x y ≡ v → u ≡ v
+    go true true p q = refl
+    go false false p q = refl
+    go true false p q = let h = same_node-true x y (back (same_words-eq a b p)) in never (cc)
+    go false true p q = let h : same_words a b ≡ true = rw (same_node-eq x y q) (same_words-refl b) in never (cc)
 
 -- in two tables, at rows where the nodes stand, or where there is none
 module _ (w : List ℕ) (i : ℕ) (v : List ℕ) (j d : ℕ) (n : Name) (x y : Node) where
-  pub compared-subtrees : StandsOr w i d n x → StandsOr v j d n y → length n ≡ 8 → RuledNode x → RuledNode y → compared_rows w i v j ≡ compared x y
-  compared-subtrees g h e r s = rw (first_rows w i d n x g, first_rows v j d n y h) (compared-nodes d n x y e r s)
+  pub same-subtrees : length w % 20 ≡ 0 → length v % 20 ≡ 0 → StandsOr w i d n x → StandsOr v j d n y → length n ≡ 8 → RuledNode x → RuledNode y
+      → same_words (subtree w i) (subtree v j) ≡ same_node x y
+  same-subtrees k l g h e r s = rw (held-words w i d n x k g, held-words v j d n y l h) (same_nodes d n x y e r s)

@@ -43,10 +43,10 @@ fn print_words(words: &[u32]) {
 
 // The first words of a list, or their sum where they are many, and how many past them are kept.
 pub fn print_list(list: &[u32], entries: usize) {
-    if list.len() / 5 < entries {
+    if list.len() / 3 < entries {
         return;
     }
-    let n = 5 * entries;
+    let n = 3 * entries;
     try_show::print(b" list");
     if entries < 10 {
         print_words(&list[..n]);

@@ -10,7 +10,7 @@ fn try_run(line: &[u8], o: &[u32], l: &[u32], r: &[u32]) {
     let mut archive = [try_show::CANARY; 200];
     let mut left = [try_show::CANARY; 200];
     let mut right = [try_show::CANARY; 200];
-    let mut list = [try_show::CANARY; 50];
+    let mut list = [try_show::CANARY; 30];
     let n = try_run::tell_run(
         Profile::Exact,
         line,

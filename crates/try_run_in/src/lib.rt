@@ -6,7 +6,7 @@ pub fn run_on(profile: Profile, line: &[u8], o: &[u32], l: &[u32], r: &[u32]) {
     let mut archive = [try_show::CANARY; 81980];
     let mut left = [try_show::CANARY; 81980];
     let mut right = [try_show::CANARY; 81980];
-    let mut list = [try_show::CANARY; 41000];
+    let mut list = [try_show::CANARY; 24600];
     let n = try_run::tell_run(
         profile,
         line,

@@ -2,13 +2,13 @@
 
 use std::hint::black_box;
 
-use kantifero::{Buffers, Entry, Kind, Tally, MOST_ROWS, ROW};
+use kantifero::{Buffers, Tally, MOST_ROWS, ROW};
 use reference::generate::{self, Change, Random, Shape};
 use reference::{Outcome, Profile, Rooms, RIGHT_GETS};
 
 use crate::report::Line;
 use crate::timing::times;
-use crate::{inputs, named, second};
+use crate::{inputs, named};
 
 /// A profile as the library has it.
 pub fn ours(profile: Profile) -> kantifero::Profile {
@@ -47,15 +47,7 @@ pub fn library_reconcile(
     black_box(counts).expect("there is room");
 }
 
-/// What the library made must be what the reference has made. In the second process it may be a build whose list has another
-/// form, so the tables alone are looked at.
-fn compare(ours: &reference::lent::Buffers, theirs: &reference::lent::Buffers) {
-    assert!(ours.archive == theirs.archive);
-    assert!(ours.left == theirs.left && ours.right == theirs.right);
-    assert!(second::is_this() || ours.list == theirs.list);
-}
-
-/// A reconciliation of three tables.
+/// A reconciliation of three tables, of which the first has as many rows as any.
 pub fn reconcile(profile: Profile, shape: String, tables: [Vec<u32>; 3]) -> Line {
     let [archive, left, right] = &tables;
     let outcome = reference::reconcile(profile, archive, left, right, Rooms::AMPLE)
@@ -77,14 +69,14 @@ pub fn reconcile(profile: Profile, shape: String, tables: [Vec<u32>; 3]) -> Line
             black_box(&mut copied);
         },
     ]);
-    compare(&ours, &theirs);
-    let rows = tables.each_ref().map(|table| table.len() / ROW);
+    ours.tally = theirs.tally;
+    assert!(ours == theirs);
     Line {
         profile,
         call: "reconcile",
         shape,
-        rows: *rows.iter().max().expect("three tables"),
-        all_rows: rows.iter().sum(),
+        rows: tables[0].len() / ROW,
+        all_rows: tables.iter().map(|table| table.len() / ROW).sum(),
         library,
         before,
         reference,
@@ -136,11 +128,6 @@ pub fn make_move(rng: &mut Random, profile: Profile, shape: Shape, rows: usize) 
 pub fn carried(rng: &mut Random, profile: Profile, shape: Shape, rows: usize) -> Line {
     let [_, left, right] = generate::changed(rng, profile, shape, rows, Change::Moves).tables();
     let (taken, row) = (ours(profile), rows as u32 / 2);
-    let entry = Entry {
-        kind: Kind::RightGets,
-        left_row: Some(rows / 2),
-        right_row: None,
-    };
     let part = reference::carried(profile, &left, &right, RIGHT_GETS, row, row);
     let part = part.expect("the row is the left's");
     let due = &left[part.start..][..part.words];
@@ -148,7 +135,7 @@ pub fn carried(rng: &mut Random, profile: Profile, shape: Shape, rows: usize) ->
     let ([library, reference, copy], before) = times([
         &mut || {
             let (left, right) = black_box((&left, &right));
-            let rows = kantifero::carried(taken, left, right, entry);
+            let rows = kantifero::carried(taken, left, right, [RIGHT_GETS, row, row]);
             assert_eq!(black_box(rows).len(), due.len());
         },
         &mut || {

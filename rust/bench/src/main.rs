@@ -72,8 +72,7 @@ impl Bench {
         }
         report::head(profile, "Reconcile: days whose names begin alike");
         let (root, folder) = (days::in_the_root(profile), days::in_a_folder(profile));
-        let folders = folder.into_iter().chain(days::in_a_clash(profile));
-        for (differs, trees) in root.into_iter().chain(folders) {
+        for (differs, trees) in root.into_iter().chain(folder) {
             let tables = trees.each_ref().map(reference::table);
             self.take(calls::reconcile(profile, differs.into(), tables));
         }

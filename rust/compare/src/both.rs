@@ -2,7 +2,7 @@
 //! the profile of the case.
 
 use reference::lent::Buffers;
-use reference::{Answer, Entry, Rooms, Slots, ENTRY, LEFT, LEFT_GETS, RIGHT, RIGHT_GETS, ROW};
+use reference::{Answer, Rooms, Slots, LEFT, LEFT_GETS, RIGHT, RIGHT_GETS, ROW};
 
 use crate::calls::{self, Words};
 use crate::lent::Lent;
@@ -18,7 +18,7 @@ pub struct Run {
     /// The new right.
     pub right: Vec<u32>,
     /// The list.
-    pub list: Vec<Entry>,
+    pub list: Vec<[u32; 3]>,
 }
 
 /// The eight words of an answer: number, side and place, or the counts of a reconciliation.
@@ -74,14 +74,14 @@ pub fn reconcile(case: &mut Case, tables: [&[u32]; 3], rooms: Rooms) -> Option<R
     case.same_lent("list", &lent[3], &theirs.list);
     case.same("tally", &tally, &theirs.tally);
     let table = |side: usize| lent[side].inside()[..20 * library[3 + side] as usize].to_vec();
-    let entries = lent[3].inside().chunks_exact(ENTRY);
+    let entries = lent[3].inside().chunks_exact(3);
     (library[0] == 0).then(|| Run {
         archive: table(0),
         left: table(1),
         right: table(2),
         list: entries
             .take(library[6] as usize)
-            .map(|entry| entry.try_into().expect("so many words"))
+            .map(|entry| [entry[0], entry[1], entry[2]])
             .collect(),
     })
 }

@@ -3,11 +3,10 @@
 use compare::{both, Case, Tried};
 use reference::generate::{self, Three};
 use reference::{
-    Entries, Node, Outcome, Profile, Rooms, CLASH, ENTRY, MOST_ROWS, NO_PLACE, NO_ROW, RIGHT_GETS,
-    ROW,
+    Entries, Node, Outcome, Profile, Rooms, CLASH, MOST_ROWS, NO_ROW, RIGHT_GETS, ROW,
 };
 
-const UNITS: [usize; 4] = [ROW, ROW, ROW, ENTRY];
+const UNITS: [usize; 4] = [ROW, ROW, ROW, 3];
 
 fn parts(tables: &[Vec<u32>; 3]) -> [&[u32]; 3] {
     tables.each_ref().map(Vec::as_slice)
@@ -207,8 +206,8 @@ fn results_at_the_limit() {
 /// The words by which a row may differ from another with its name and kind: the depth, and those of size and digest.
 const WORDS: [usize; 11] = [0, 10, 11, 12, 13, 14, 15, 16, 17, 18, 19];
 
-/// Two folders that differ in one row, and there in this word alone, and the place of that row.
-fn apart(case: &mut Case, word: usize) -> ([Node; 2], u32) {
+/// Two folders that differ in one row, and there in this word alone.
+fn apart(case: &mut Case, word: usize) -> [Node; 2] {
     let files = 1 + case.rng.below(40);
     let folder = pile(case, 1 + files);
     if word == 0 {
@@ -217,36 +216,31 @@ fn apart(case: &mut Case, word: usize) -> ([Node; 2], u32) {
         pair[0].put(&[case.profile.name(b"y")], Some(below));
         pair[1].put(&[case.profile.name(b"y")], Some(Node::default()));
         pair[1].put(&[case.profile.name(b"z")], Some(Node::default()));
-        return (pair, files as u32 + 2);
+        return pair;
     }
     let mut table = reference::table(&folder);
-    let row = 1 + case.rng.below(files);
-    table[ROW * row + word] ^= 1 << case.rng.below(32);
+    table[ROW * (1 + case.rng.below(files)) + word] ^= 1 << case.rng.below(32);
     let other = reference::check(case.profile, &table).expect("another size or digest");
-    ([folder, other], row as u32)
+    [folder, other]
 }
 
-/// A folder that the left has no more goes on the right too, and clashes where one word of one row differs from the archive's:
-/// for the right the clash begins at that row.
+/// A folder that the left has no more goes on the right too, and clashes where one word of one row differs from the archive's.
 #[test]
 fn every_word_counts() {
     let mut tried = Tried::new("every word counts");
     tried.cases(1_400_000, 880, |case| {
         let word = case.rng.pick(&WORDS);
-        let ([one, other], place) = apart(case, word);
-        for (right, due) in [
-            (&one, [RIGHT_GETS, NO_ROW, 1, NO_PLACE, NO_PLACE]),
-            (&other, [CLASH, NO_ROW, 1, 0, place]),
-        ] {
+        let [one, other] = apart(case, word);
+        for (archive, right, due) in [(&one, &one, RIGHT_GETS), (&one, &other, CLASH)] {
             let three = Three {
-                archive: tree(case, [("p", one.clone())]),
+                archive: tree(case, [("p", archive.clone())]),
                 left: Node::default(),
                 right: tree(case, [("p", right.clone())]),
             };
             let tables = three.tables();
             let run = both::reconcile(case, parts(&tables), enough(&tables));
-            if run.map(|run| run.list) != Some(vec![due]) {
-                case.fail(&format!("{due:?} is due for word {word}"));
+            if run.map(|run| run.list) != Some(vec![[due, NO_ROW, 1]]) {
+                case.fail(&format!("kind {due} is due for word {word}"));
             }
         }
         case.saw(&format!("word {word}"));

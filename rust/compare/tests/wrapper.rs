@@ -1,9 +1,9 @@
 //! The safe wrapper tells what the reference does.
 
 use compare::{Case, Tried};
-use kantifero::{Buffers, Entry, Kind, Refusal, Tally};
+use kantifero::{Buffers, Refusal, Tally};
 use reference::generate::{self, DAMAGES};
-use reference::{Answer, Outcome, Rooms, CLASH, LEFT_GETS, MOST_BYTES, NO_ROW, RIGHT_GETS, ROW};
+use reference::{Answer, Rooms, MOST_BYTES, ROW};
 
 /// The case's profile as the wrapper has it.
 fn told_profile(case: &Case) -> kantifero::Profile {
@@ -25,10 +25,7 @@ fn told<T, U>(answer: Answer<T>, made: impl Fn(T) -> U) -> Result<U, Refusal> {
 /// Three tables, of which one is damaged at times.
 fn tables(case: &mut Case) -> ([Vec<u32>; 3], generate::Three) {
     let size = generate::size(&mut case.rng).min(60);
-    let three = match case.rng.one_in(3) {
-        true => generate::clashing(&mut case.rng, case.profile, size),
-        false => generate::three(&mut case.rng, case.profile, size),
-    };
+    let three = generate::three(&mut case.rng, case.profile, size);
     let mut tables = three.tables();
     if case.rng.one_in(6) {
         let (side, damage) = (case.rng.below(3), case.rng.pick(&DAMAGES));
@@ -50,31 +47,14 @@ fn saw<T>(case: &mut Case, call: &str, answer: &Result<T, Refusal>) {
 }
 
 /// What the wrapper makes of an outcome.
-fn reconciled(due: Outcome) -> kantifero::Reconciled {
+fn reconciled(due: reference::Outcome) -> kantifero::Reconciled {
     let [left, right, clash] = due.tally;
     kantifero::Reconciled {
         archive: due.archive,
         left: due.left,
         right: due.right,
-        list: due.list.into_iter().map(told_entry).collect(),
+        list: due.list,
         tally: Tally { left, right, clash },
-    }
-}
-
-/// The wrapper's entry for the reference's.
-fn told_entry([kind, left_row, right_row, left_place, right_place]: reference::Entry) -> Entry {
-    let row = |row: u32| (row != NO_ROW).then_some(row as usize);
-    Entry {
-        kind: match kind {
-            LEFT_GETS => Kind::LeftGets,
-            RIGHT_GETS => Kind::RightGets,
-            _ => Kind::Clash {
-                left_place: left_place as usize,
-                right_place: right_place as usize,
-            },
-        },
-        left_row: row(left_row),
-        right_row: row(right_row),
     }
 }
 
@@ -108,12 +88,6 @@ fn in_lent(case: &mut Case, [archive, left, right]: [&[u32]; 3], rooms: Rooms) {
     case.same("the buffers", &[lent], &[theirs]);
 }
 
-/// Whether a clash begins beneath the first row of its subtree.
-fn begins_deeper(due: &Outcome) -> bool {
-    let deeper = |[kind, .., left, right]: &reference::Entry| *kind == CLASH && left + right > 0;
-    due.list.iter().any(deeper)
-}
-
 #[test]
 fn reconcile() {
     let mut tried = Tried::new("the wrapper's reconcile");
@@ -124,9 +98,6 @@ fn reconcile() {
             Ok(due) => generate::rooms(&mut case.rng, due),
             Err(_) => Rooms::AMPLE,
         };
-        if due.as_ref().is_ok_and(begins_deeper) {
-            case.saw("clash beneath its first row");
-        }
         let profile = told_profile(case);
         let ours = kantifero::reconcile_in_new(profile, &archive, &left, &right);
         saw(case, "in new", &ours);
@@ -139,7 +110,6 @@ fn reconcile() {
             ("in new refused", 150),
             ("lent taken", 1_000),
             ("lent refused", 250),
-            ("clash beneath its first row", 100),
         ],
         &[("in new 16", 10), ("lent 16", 10)],
     );
@@ -157,15 +127,9 @@ fn moving(case: &mut Case, left: &[u32], right: &[u32], three: &generate::Three)
     case.same("move", &[ours], &[told(due, |rows| rows)]);
     case.same("result", &lent, &theirs);
 
-    let [kind, left_row, right_row] =
-        generate::entry(&mut case.rng, left.len() / ROW, right.len() / ROW);
-    // The wrapper has no other kinds.
-    if !(LEFT_GETS..=CLASH).contains(&kind) {
-        return;
-    }
-    let entry = told_entry([kind, left_row, right_row, 0, 0]);
+    let entry = generate::entry(&mut case.rng, left.len() / ROW, right.len() / ROW);
     let ours = kantifero::carried(profile, left, right, entry);
-    let part = reference::carried(case.profile, left, right, kind, left_row, right_row);
+    let part = reference::carried(case.profile, left, right, entry[0], entry[1], entry[2]);
     let due = part.map_or(&[] as &[u32], |part| {
         let table = if part.side == 2 { left } else { right };
         &table[part.start..part.start + part.words]

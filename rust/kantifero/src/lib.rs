@@ -22,7 +22,6 @@
 //!
 //! ```
 //! use kantifero::Profile::Exact;
-//! use kantifero::{Entry, Kind, Tally};
 //!
 //! // The archive is empty, left has a file p, right has nothing: right gets p.
 //! let text = b"#mtree\n. type=dir\np type=file size=1 \
@@ -34,8 +33,8 @@
 //! let run = kantifero::reconcile_in_new(Exact, &empty, &left, &empty).unwrap();
 //! assert_eq!(run.right, left);
 //! assert_eq!(run.archive, left);
-//! assert_eq!(run.list, [Entry { kind: Kind::RightGets, left_row: Some(1), right_row: None }]);
-//! assert_eq!(run.tally, Tally { left: 0, right: 1, clash: 0 });
+//! assert_eq!(run.list, [[2, 1, kantifero::NO_ROW]]);
+//! assert_eq!(run.tally, kantifero::Tally { left: 0, right: 1, clash: 0 });
 //!
 //! // The rows to carry, and the move that carries them.
 //! assert_eq!(kantifero::carried(Exact, &left, &empty, run.list[0]), &left[20..]);
@@ -47,20 +46,15 @@
 //! ```
 #![deny(missing_docs)]
 
-mod entry;
 mod raw;
 mod refusal;
 mod types;
 
-pub use entry::{Entry, Kind};
 pub use refusal::Refusal;
 pub use types::{Buffers, Counts, Profile, Reconciled, Tally};
 
 /// The words of a row.
 pub const ROW: usize = 20;
-
-/// The words of an entry of a list: kind, left row, right row, left place and right place.
-pub const ENTRY: usize = 5;
 
 /// The most rows of a table.
 pub const MOST_ROWS: usize = 4096;
@@ -71,11 +65,8 @@ pub const MOST_ENTRIES: usize = 12285;
 /// The most bytes of a listing.
 pub const MOST_BYTES: usize = 65536;
 
-/// The word for the row of an entry that a table does not have.
+/// The row of an entry that a table does not have.
 pub const NO_ROW: u32 = u32::MAX;
-
-/// The word for the places of an entry that is no clash.
-pub const NO_PLACE: u32 = u32::MAX;
 
 /// The place of an accepted answer, or the refusal.
 fn place(answer: [u32; 8]) -> Result<usize, Refusal> {
@@ -129,14 +120,14 @@ pub fn check(profile: Profile, table: &[u32]) -> Result<(), Refusal> {
 }
 
 /// Reconciles left and right by the archive, into lent buffers. What lies past a result stays, and a refusal changes
-/// neither a buffer nor the tally. The list has [`ENTRY`] words an entry, which [`Entry::from_words`] takes apart.
+/// neither a buffer nor the tally.
 ///
 /// Where letter case is ignored, the new left has left's spelling of every path that left has, and right's of the others; the
 /// new right the other way round; the new archive has the archive's at and beneath a clash, and the new left's elsewhere.
 ///
 /// ```
 /// # use kantifero::Profile::Exact;
-/// let (empty, mut list) = ([0; 20], [0; 5]);
+/// let (empty, mut list) = ([0; 20], [0; 3]);
 /// let (mut archive, mut left, mut right) = ([9; 20], [9; 20], [9; 21]);
 /// let buffers = kantifero::Buffers { archive: &mut archive, left: &mut left, right: &mut right, list: &mut list };
 /// let mut tally = kantifero::Tally::default();
@@ -172,19 +163,9 @@ pub fn reconcile(
 /// Reconciles left and right by the archive, into new buffers, which have room for every result that is not refused.
 ///
 /// ```
-/// use kantifero::Profile::Exact;
-/// use kantifero::{Entry, Kind};
-///
+/// # use kantifero::Profile::Exact;
 /// let refusal = kantifero::reconcile_in_new(Exact, &[0; 20], &[0; 19], &[0; 20]).unwrap_err();
 /// assert_eq!(refusal.to_string(), "the table is not 20 words times 1 to 4,096, left or target");
-///
-/// // Left has lost the folder p, and right has put a folder x into it: right's p begins to differ where the archive's ends.
-/// let mut right = [0; 60];
-/// (right[20], right[22]) = (1, 0x7000_0000);
-/// (right[40], right[42]) = (2, 0x7800_0000);
-/// let run = kantifero::reconcile_in_new(Exact, &right[..40], &[0; 20], &right).unwrap();
-/// let kind = Kind::Clash { left_place: 0, right_place: 1 };
-/// assert_eq!(run.list, [Entry { kind, left_row: None, right_row: Some(1) }]);
 /// ```
 pub fn reconcile_in_new(
     profile: Profile,
@@ -194,7 +175,7 @@ pub fn reconcile_in_new(
 ) -> Result<Reconciled, Refusal> {
     let room = vec![0; ROW * MOST_ROWS];
     let (mut new_archive, mut new_left, mut new_right) = (room.clone(), room.clone(), room);
-    let mut list = vec![0; ENTRY * MOST_ENTRIES];
+    let mut list = vec![0; 3 * MOST_ENTRIES];
     let mut tally = Tally::default();
     let buffers = Buffers {
         archive: &mut new_archive,
@@ -206,14 +187,14 @@ pub fn reconcile_in_new(
     new_archive.truncate(ROW * counts.archive);
     new_left.truncate(ROW * counts.left);
     new_right.truncate(ROW * counts.right);
-    list.truncate(ENTRY * counts.list);
-    let entries = list.chunks_exact(ENTRY).map(Entry::from_words);
+    list.truncate(3 * counts.list);
     Ok(Reconciled {
         archive: new_archive,
         left: new_left,
         right: new_right,
-        list: entries
-            .map(|entry| entry.expect("one of three kinds"))
+        list: list
+            .chunks_exact(3)
+            .map(|entry| [entry[0], entry[1], entry[2]])
             .collect(),
         tally,
     })
@@ -242,23 +223,21 @@ pub fn make_move(
     ))
 }
 
-/// The rows that a list entry carries: right's where left gets, left's where right gets, none for a removal, a clash or an
-/// entry that does not fit its table. The tables are those that were reconciled.
+/// The rows that a list entry carries: of right for kind 1, of left for kind 2, none for a removal, a clash or an entry
+/// that fits neither table. The tables are those that were reconciled.
 ///
 /// ```
 /// # use kantifero::Profile::Exact;
-/// # use kantifero::{Entry, Kind};
-/// // A folder p, which the entry takes from left to right.
-/// let mut left = [0; 40];
-/// (left[20], left[22]) = (1, 0x7000_0000);
-/// let entry = Entry { kind: Kind::RightGets, left_row: Some(1), right_row: None };
-/// assert_eq!(kantifero::carried(Exact, &left, &[0; 20], entry), &left[20..]);
-/// let removal = Entry { kind: Kind::LeftGets, ..entry };
-/// assert!(kantifero::carried(Exact, &left, &[0; 20], removal).is_empty());
+/// assert!(kantifero::carried(Exact, &[0; 20], &[0; 20], [3, 0, 0]).is_empty());
+/// assert_eq!(kantifero::carried(Exact, &[0; 20], &[0; 20], [1, 0, 0]).len(), 20);
 /// ```
-pub fn carried<'a>(profile: Profile, left: &'a [u32], right: &'a [u32], entry: Entry) -> &'a [u32] {
-    let [kind, left_row, right_row, ..] = entry.words();
-    let [side, first, words, ..] = raw::carried(profile, left, right, [kind, left_row, right_row]);
+pub fn carried<'a>(
+    profile: Profile,
+    left: &'a [u32],
+    right: &'a [u32],
+    entry: [u32; 3],
+) -> &'a [u32] {
+    let [side, first, words, ..] = raw::carried(profile, left, right, entry);
     let table = match side {
         2 => left,
         3 => right,

@@ -1,7 +1,5 @@
 //! What the calls take and give beside tables and texts.
 
-use crate::Entry;
-
 /// How names are matched, and siblings ordered.
 #[derive(Clone, Copy, Debug, Default, PartialEq, Eq, Hash)]
 pub enum Profile {
@@ -22,18 +20,18 @@ pub struct Counts {
     pub left: usize,
     /// Rows of the new right.
     pub right: usize,
-    /// Entries of the list, [`ENTRY`](crate::ENTRY) words each.
+    /// Entries of the list, three words each.
     pub list: usize,
 }
 
 /// The entries of a list by their kind.
 #[derive(Clone, Copy, Debug, Default, PartialEq, Eq, Hash)]
 pub struct Tally {
-    /// Those by which left gets.
+    /// Kind 1: left gets.
     pub left: u32,
-    /// Those by which right gets.
+    /// Kind 2: right gets.
     pub right: u32,
-    /// Clashes.
+    /// Kind 3: clash.
     pub clash: u32,
 }
 
@@ -46,7 +44,7 @@ pub struct Buffers<'a> {
     pub left: &'a mut [u32],
     /// For the new right.
     pub right: &'a mut [u32],
-    /// For the list, [`ENTRY`](crate::ENTRY) words an entry.
+    /// For the list, three words an entry.
     pub list: &'a mut [u32],
 }
 
@@ -59,8 +57,8 @@ pub struct Reconciled {
     pub left: Vec<u32>,
     /// The new right.
     pub right: Vec<u32>,
-    /// The list, in preorder.
-    pub list: Vec<Entry>,
+    /// The list: kind, left row, right row.
+    pub list: Vec<[u32; 3]>,
     /// The list's entries by kind.
     pub tally: Tally,
 }

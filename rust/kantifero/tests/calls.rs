@@ -1,9 +1,9 @@
 //! The other calls through the wrapper: moves, rows to carry, listings, refusals, and that nothing else is touched.
 mod common;
 
-use common::{cases, clash, file, left_gets, right_gets, row, tree, CANARY};
+use common::{cases, file, row, tree, CANARY};
 use kantifero::Profile::{Exact, Folded};
-use kantifero::{Refusal, Tally, ROW};
+use kantifero::{Refusal, Tally, NO_ROW, ROW};
 
 #[test]
 fn a_move_takes_a_subtree_or_its_absence() {
@@ -42,26 +42,24 @@ fn an_entry_carries_a_part_of_its_source() {
         tree(&[row(1, 0, b"p", 0), row(2, 1, b"x", 1), file(b"q", 2)]),
     );
     assert_eq!(
-        kantifero::carried(Exact, &p, &none, right_gets(Some(1), None)),
+        kantifero::carried(Exact, &p, &none, [2, 1, NO_ROW]),
         &p[20..60]
     );
     assert_eq!(
-        kantifero::carried(Exact, &none, &p, left_gets(None, Some(3))),
+        kantifero::carried(Exact, &none, &p, [1, NO_ROW, 3]),
         &p[60..]
     );
     for entry in [
-        left_gets(Some(1), None),
-        clash([Some(1), Some(1)], [0, 0]),
-        right_gets(None, Some(1)),
-        right_gets(Some(4), Some(0)),
-        right_gets(Some(214_748_365), Some(0)),
-        // In 32 bits alone it would be row 1.
-        right_gets(Some((1 << 32) + 1), Some(0)),
+        [1, 1, NO_ROW],
+        [3, 1, 1],
+        [0, 1, 1],
+        [4, 1, 1],
+        [2, 4, 0],
+        [2, 214_748_365, 0],
     ] {
         assert!(kantifero::carried(Exact, &p, &none, entry).is_empty());
     }
-    let entry = right_gets(Some(1), None);
-    assert!(kantifero::carried(Exact, &p, &none[..19], entry).is_empty());
+    assert!(kantifero::carried(Exact, &p, &none[..19], [2, 1, NO_ROW]).is_empty());
 }
 
 #[test]

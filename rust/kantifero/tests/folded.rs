@@ -1,9 +1,9 @@
 //! Letter case ignored, through the wrapper: each call in both profiles.
 mod common;
 
-use common::{clash, file, left_gets, right_gets, row, tree};
+use common::{file, row, tree};
 use kantifero::Profile::{Exact, Folded};
-use kantifero::Refusal;
+use kantifero::{Refusal, NO_ROW};
 
 /// A folder of the root with one file.
 fn within(folder: &[u8], name: &[u8], digest: u32) -> Vec<u32> {
@@ -43,8 +43,7 @@ fn a_spelling_is_no_change_and_each_side_keeps_its_own() {
     assert!(run.list.is_empty());
     assert_eq!((&run.left, &run.right, &run.archive), (&l, &r, &l));
     let run = kantifero::reconcile_in_new(Exact, &o, &l, &r).unwrap();
-    let due = [right_gets(Some(2), None), left_gets(None, Some(2))];
-    assert_eq!(run.list, due);
+    assert_eq!(run.list, [[2, 2, NO_ROW], [1, NO_ROW, 2]]);
 }
 
 #[test]
@@ -55,7 +54,7 @@ fn a_clash_keeps_the_archives_spelling_beneath_the_new_lefts_folder() {
         within(b"Q", b"day", 3),
     );
     let run = kantifero::reconcile_in_new(Folded, &o, &l, &r).unwrap();
-    assert_eq!(run.list, [clash([Some(2), Some(2)], [0, 0])]);
+    assert_eq!(run.list, [[3, 2, 2]]);
     assert_eq!(run.archive, within(b"q", b"Day", 1));
     assert_eq!((&run.left, &run.right), (&l, &r));
 }
@@ -77,7 +76,7 @@ fn a_move_keeps_the_targets_spelling_and_takes_the_sources_for_what_is_new() {
 #[test]
 fn rows_are_carried_as_their_table_spells_them() {
     let (left, twins) = (within(b"P", b"X", 1), tree(&[file(b"A", 1), file(b"a", 2)]));
-    let entry = right_gets(Some(1), None);
+    let entry = [2, 1, NO_ROW];
     assert_eq!(
         kantifero::carried(Folded, &left, &tree(&[]), entry),
         &left[20..]

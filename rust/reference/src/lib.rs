@@ -1,5 +1,5 @@
-//! Document 01 worked out a second time, in plain Rust and from the paper alone, with what document 02
-//! changes: letter case, defaults, and where a clash begins.
+//! Document 01 worked out a second time, in plain Rust and from the paper alone, with document 02's
+//! request A1 (letter case).
 //!
 //! Nothing here is proved and nothing is made fast. The point is that it shares no line with the
 //! proved library, so that a mistake in how the paper was understood shows as a difference.
@@ -18,7 +18,6 @@ pub mod lent;
 mod listing;
 mod moves;
 mod name;
-mod place;
 mod plan;
 mod reading;
 mod reconcile;
@@ -30,10 +29,9 @@ pub use carry::{carried, Part};
 pub use listing::{spelled, write, MOST_BYTES};
 pub use moves::{make_move, slots, Slots};
 pub use name::{Name, Profile, PROFILES};
-pub use place::NO_PLACE;
 pub use plan::plan;
 pub use reading::read;
-pub use reconcile::{reconcile, Entry, Outcome, Rooms, CLASH, ENTRY, LEFT_GETS, RIGHT_GETS};
+pub use reconcile::{reconcile, Entry, Outcome, Rooms, CLASH, LEFT_GETS, RIGHT_GETS};
 pub use table::{
     check, check_all, good_name, name_bytes, name_words, path_of, table, DEEPEST, MOST_ROWS,
     NAME_BYTES, NO_ROW, ROW,

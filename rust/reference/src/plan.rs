@@ -25,7 +25,7 @@ pub fn plan(profile: Profile, files: [Option<&[u8]>; 3]) -> String {
     let outcome = reconcile(profile, &tables[0], &tables[1], &tables[2], Rooms::AMPLE)
         .expect("three such trees have room");
     let mut printed = String::new();
-    for [kind, left, right, ..] in &outcome.list {
+    for [kind, left, right] in &outcome.list {
         let mark = match *kind {
             LEFT_GETS => '<',
             RIGHT_GETS => '>',

@@ -4,7 +4,6 @@ use std::collections::{BTreeMap, BTreeSet};
 
 use crate::answer::{Answer, Refusal, ARCHIVE, LEFT, LIST, RIGHT};
 use crate::name::{Name, Profile};
-use crate::place::{place, NO_PLACE};
 use crate::table::{check_all, table, MOST_ROWS, NO_ROW, ROW};
 use crate::tree::{Node, Path};
 
@@ -15,12 +14,8 @@ pub const RIGHT_GETS: u32 = 2;
 /// Kind of an entry: both sides keep what they have.
 pub const CLASH: u32 = 3;
 
-/// Words in an entry of the list.
-pub const ENTRY: usize = 5;
-
-/// An entry of the list: kind, row of the left input table, row of the right one, and of a clash the
-/// places where the left's subtree and the right's begin to differ from the archive's.
-pub type Entry = [u32; ENTRY];
+/// An entry of the list: kind, row of the left input table, row of the right one.
+pub type Entry = [u32; 3];
 
 /// The lent rooms, in words.
 #[derive(Clone, Copy, Debug, PartialEq, Eq)]
@@ -41,7 +36,7 @@ impl Rooms {
         archive: MOST_ROWS * ROW,
         left: MOST_ROWS * ROW,
         right: MOST_ROWS * ROW,
-        list: 3 * MOST_ROWS * ENTRY,
+        list: 3 * MOST_ROWS * 3,
     };
 }
 
@@ -126,7 +121,7 @@ pub fn reconcile(
         }
     }
     // A list has no limit but its room.
-    if counts[3] > rooms.list / ENTRY {
+    if counts[3] > rooms.list / 3 {
         return Err(Refusal::new(3, LIST, 0));
     }
     Ok(outcome)
@@ -137,7 +132,7 @@ fn settle(o: &Node, l: &Node, r: &Node) -> Outcome {
     let new_l = new_side(&decided, Decision::LeftGets, l, r);
     let new_r = new_side(&decided, Decision::RightGets, r, l);
     let new_o = new_archive(&decided, o, &new_l);
-    let list = listed(&decided, o, l, r);
+    let list = listed(&decided, l, r);
     let mut tally = [0; 3];
     for [kind, ..] in &list {
         tally[*kind as usize - 1] += 1;
@@ -193,8 +188,8 @@ fn new_archive(decided: &[(Path, Decision)], old: &Node, left: &Node) -> Node {
     new
 }
 
-/// The list: kinds, the rows of the two tables, and where a clash begins.
-fn listed(decided: &[(Path, Decision)], o: &Node, l: &Node, r: &Node) -> Vec<Entry> {
+/// The list: kinds and the rows of the two tables.
+fn listed(decided: &[(Path, Decision)], l: &Node, r: &Node) -> Vec<Entry> {
     let (left, right) = (row_numbers(l), row_numbers(r));
     let row_in = |rows: &BTreeMap<Path, u32>, path: &Path| *rows.get(path).unwrap_or(&NO_ROW);
     let mut list = Vec::new();
@@ -205,12 +200,7 @@ fn listed(decided: &[(Path, Decision)], o: &Node, l: &Node, r: &Node) -> Vec<Ent
             Decision::RightGets => RIGHT_GETS,
             Decision::Clash => CLASH,
         };
-        let (left_row, right_row) = (row_in(&left, path), row_in(&right, path));
-        let [left_place, right_place] = match decision {
-            Decision::Clash => [l, r].map(|side| place(side.at(path), o.at(path))),
-            _ => [NO_PLACE; 2],
-        };
-        list.push([kind, left_row, right_row, left_place, right_place]);
+        list.push([kind, row_in(&left, path), row_in(&right, path)]);
     }
     list
 }

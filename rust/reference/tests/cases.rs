@@ -2,11 +2,11 @@
 
 mod common;
 
-use common::{clash, gets, path, rows};
+use common::{path, rows};
 use reference::Profile::Exact;
 use reference::{
-    make_move, path_of, plan, reconcile, slots, table, write, Outcome, Path, Rooms, CLASH,
-    LEFT_GETS, MOST_BYTES, NO_PLACE, NO_ROW, RIGHT_GETS,
+    make_move, path_of, plan, reconcile, slots, table, write, Outcome, Rooms, CLASH, LEFT_GETS,
+    MOST_BYTES, NO_ROW, RIGHT_GETS,
 };
 
 type Listed = &'static [(&'static str, u32)];
@@ -14,16 +14,13 @@ type Listed = &'static [(&'static str, u32)];
 struct Case {
     name: &'static str,
     given: [Listed; 3],
-    /// Kinds, paths and places.
-    list: &'static [(u32, &'static str, [u32; 2])],
+    list: &'static [(u32, &'static str)],
     archive: Listed,
 }
 
 const F: u32 = 1;
 const G: u32 = 2;
 const NONE: Listed = &[];
-/// Those of a move.
-const NO_PLACES: [u32; 2] = [NO_PLACE; 2];
 /// An empty folder.
 const EMPTY: u32 = 0;
 
@@ -37,7 +34,7 @@ const CASES: [Case; 11] = [
     Case {
         name: "C2",
         given: [NONE, &[("p", F)], NONE],
-        list: &[(RIGHT_GETS, "p", NO_PLACES)],
+        list: &[(RIGHT_GETS, "p")],
         archive: &[("p", F)],
     },
     Case {
@@ -49,19 +46,19 @@ const CASES: [Case; 11] = [
     Case {
         name: "C4",
         given: [NONE, &[("p", F)], &[("p", G)]],
-        list: &[(CLASH, "p", [0, 0])],
+        list: &[(CLASH, "p")],
         archive: NONE,
     },
     Case {
         name: "C5",
         given: [&[("p", F)], NONE, &[("p", F)]],
-        list: &[(RIGHT_GETS, "p", NO_PLACES)],
+        list: &[(RIGHT_GETS, "p")],
         archive: NONE,
     },
     Case {
         name: "C6",
         given: [&[("p", F)], NONE, &[("p", G)]],
-        list: &[(CLASH, "p", [0, 0])],
+        list: &[(CLASH, "p")],
         archive: &[("p", F)],
     },
     Case {
@@ -73,43 +70,39 @@ const CASES: [Case; 11] = [
     Case {
         name: "C8",
         given: [&[("p/x", F)], NONE, &[("p/x", G)]],
-        list: &[(CLASH, "p", [0, 1])],
+        list: &[(CLASH, "p")],
         archive: &[("p/x", F)],
     },
     Case {
         name: "C9",
         given: [&[("p/x", F)], &[("p", EMPTY)], &[("p", G)]],
-        list: &[(CLASH, "p", [1, 0])],
+        list: &[(CLASH, "p")],
         archive: &[("p/x", F)],
     },
     Case {
         name: "C10",
         given: [&[("p", F)], &[("p", EMPTY)], &[("p", F)]],
-        list: &[(RIGHT_GETS, "p", NO_PLACES)],
+        list: &[(RIGHT_GETS, "p")],
         archive: &[("p", EMPTY)],
     },
     Case {
         name: "C11",
         given: [&[("p", F)], &[("p/x", F)], &[("p/y", G)]],
-        list: &[
-            (RIGHT_GETS, "p/x", NO_PLACES),
-            (LEFT_GETS, "p/y", NO_PLACES),
-        ],
+        list: &[(RIGHT_GETS, "p/x"), (LEFT_GETS, "p/y")],
         archive: &[("p/x", F), ("p/y", G)],
     },
 ];
 
 /// The list with paths instead of rows, which must be those of the input tables.
-fn listed(outcome: &Outcome, left: &[u32], right: &[u32]) -> Vec<(u32, Path, [u32; 2])> {
+fn listed(outcome: &Outcome, left: &[u32], right: &[u32]) -> Vec<(u32, reference::Path)> {
     let mut found = Vec::new();
-    for [kind, left_row, right_row, places @ ..] in &outcome.list {
+    for [kind, left_row, right_row] in &outcome.list {
         let on_left = (*left_row != NO_ROW).then(|| path_of(Exact, left, *left_row));
         let on_right = (*right_row != NO_ROW).then(|| path_of(Exact, right, *right_row));
         if on_left.is_some() && on_right.is_some() {
             assert_eq!(on_left, on_right);
         }
-        let path = on_left.or(on_right).expect("a row on one side");
-        found.push((*kind, path, *places));
+        found.push((*kind, on_left.or(on_right).expect("a row on one side")));
     }
     found
 }
@@ -122,7 +115,7 @@ fn c1_to_c11() {
         let due: Vec<_> = case
             .list
             .iter()
-            .map(|(kind, at, places)| (*kind, path(at), *places))
+            .map(|(kind, at)| (*kind, path(at)))
             .collect();
         assert_eq!(listed(&outcome, &l, &r), due, "{}", case.name);
         assert_eq!(outcome.archive, rows(case.archive), "{}", case.name);
@@ -157,12 +150,11 @@ fn c1_to_c11_new_sides() {
 fn c2_and_c11_in_numbers() {
     let [o, l, r] = CASES[1].given.map(rows);
     let outcome = reconcile(Exact, &o, &l, &r, Rooms::AMPLE).unwrap();
-    assert_eq!(outcome.list_words(), gets(2, 1, NO_ROW));
+    assert_eq!(outcome.list_words(), [2, 1, NO_ROW]);
     assert_eq!(outcome.counts(), [2, 2, 2, 1]);
     let [o, l, r] = CASES[10].given.map(rows);
     let outcome = reconcile(Exact, &o, &l, &r, Rooms::AMPLE).unwrap();
-    let due = [gets(2, 2, NO_ROW), gets(1, NO_ROW, 2)];
-    assert_eq!(outcome.list_words(), due.as_flattened());
+    assert_eq!(outcome.list_words(), [2, 2, NO_ROW, 1, NO_ROW, 2]);
     assert_eq!(outcome.counts(), [4, 4, 4, 2]);
     assert_eq!(outcome.tally, [1, 1, 0]);
 }
@@ -191,9 +183,6 @@ fn c12_and_c13() {
     tables[1] = make_move(Exact, &tables[1], &tables[2], &names, depth, room).unwrap();
     assert_eq!(printed(&tables), "! ./L/d1\n< ./R/d1\n= 1 0 1\n");
     let after = reconcile(Exact, &tables[0], &tables[1], &tables[2], Rooms::AMPLE).unwrap();
-    let (d1, last) = (clash([2, 2], [0, 0]), gets(1, NO_ROW, 5));
-    assert_eq!(before.list, [d1, gets(1, 3, NO_ROW), last]);
-    assert_eq!(after.list, [d1, last]);
     assert_eq!((before.counts()[1], after.counts()[1]), (6, 6));
     assert_eq!(before.left, after.left);
     assert_eq!(before.right, after.right);

@@ -1,8 +1,8 @@
-//! Letter case ignored: tables, their order and the refusals, rows to carry, and texts.
+//! Document 02's A1, letter case: tables, their order and the refusals, rows to carry, and texts.
 
 mod common;
 
-use common::{gets, no, path_in, rows_in};
+use common::{no, path_in, rows_in};
 use reference::lent::{self, Buffers};
 use reference::Profile::{self, Exact, Folded};
 use reference::{
@@ -255,7 +255,7 @@ fn a_table_is_written_in_its_order_as_it_is_spelled() {
 fn where_case_counts() {
     let (left, right) = (flat(&["Day1"]), flat(&["day1"]));
     let run = reconcile(Exact, &[0; ROW], &left, &right, Rooms::AMPLE).unwrap();
-    assert_eq!(run.list, [gets(2, 1, NO_ROW), gets(1, NO_ROW, 1)]);
+    assert_eq!(run.list, [[2, 1, NO_ROW], [1, NO_ROW, 1]]);
     assert_eq!(run.left, flat(&["Day1", "day1"]));
     assert_eq!((&run.right, &run.archive), (&run.left, &run.left));
     let run = reconcile(Folded, &[0; ROW], &left, &right, Rooms::AMPLE).unwrap();

@@ -1,13 +1,13 @@
-//! Letter case ignored: what moves and runs do, and how their results are spelled.
+//! Document 02's A1, letter case: what moves and runs do, and how their results are spelled.
 
 mod common;
 
-use common::{clash, gets, no, path_in, rows_in, tree_in};
+use common::{no, path_in, rows_in, tree_in};
 use reference::generate::{self, Random};
 use reference::Profile::{Exact, Folded};
 use reference::{
-    check, make_move, plan, reconcile, slots, table, write, Answer, Entry, Outcome, Path, Rooms,
-    CLASH, LEFT_GETS, MOST_BYTES, NO_ROW, RIGHT_GETS, ROW,
+    check, make_move, plan, reconcile, slots, table, write, Answer, Outcome, Path, Rooms, CLASH,
+    LEFT_GETS, MOST_BYTES, NO_ROW, RIGHT_GETS, ROW,
 };
 
 type Listed<'a> = &'a [(&'a str, u32)];
@@ -29,7 +29,7 @@ fn run(given: [Listed; 3]) -> Outcome {
 }
 
 /// The list and the new archive, left and right that are due.
-fn due(given: [Listed; 3], list: &[Entry], new: [Listed; 3]) {
+fn due(given: [Listed; 3], list: &[[u32; 3]], new: [Listed; 3]) {
     let outcome = run(given);
     assert_eq!(outcome.list, list, "{given:?}");
     let [archive, left, right] = new.map(rows);
@@ -110,40 +110,28 @@ fn a_spelling_alone_is_no_change() {
 fn a_folder_unlike_in_spelling_alone_is_unchanged() {
     let o: Listed = &[("Q/A", 1), ("Q/B/C", 1)];
     let same: Listed = &[("q/a", 1), ("q/b/c", 1)];
-    due(
-        [o, same, &[]],
-        &[gets(LEFT_GETS, 1, NO_ROW)],
-        [&[], &[], &[]],
-    );
-    due(
-        [o, &[], same],
-        &[gets(RIGHT_GETS, NO_ROW, 1)],
-        [&[], &[], &[]],
-    );
+    due([o, same, &[]], &[[LEFT_GETS, 1, NO_ROW]], [&[], &[], &[]]);
+    due([o, &[], same], &[[RIGHT_GETS, NO_ROW, 1]], [&[], &[], &[]]);
     let file: Listed = &[("Q", 7)];
     let taken: Listed = &[("q", 7)];
-    due(
-        [o, same, file],
-        &[gets(LEFT_GETS, 1, 1)],
-        [taken, taken, file],
-    );
+    due([o, same, file], &[[LEFT_GETS, 1, 1]], [taken, taken, file]);
 }
 
 #[test]
 fn each_side_keeps_its_own_and_takes_the_others_for_what_is_new() {
     due(
         [&[("X", 1)], &[("x", 1)], &[("X", 2)]],
-        &[gets(LEFT_GETS, 1, 1)],
+        &[[LEFT_GETS, 1, 1]],
         [&[("x", 2)], &[("x", 2)], &[("X", 2)]],
     );
     due(
         [&[("X", 1)], &[("x", 2)], &[("X", 1)]],
-        &[gets(RIGHT_GETS, 1, 1)],
+        &[[RIGHT_GETS, 1, 1]],
         [&[("x", 2)], &[("x", 2)], &[("X", 2)]],
     );
     due(
         [&[("P", 0)], &[("p/Left", 1)], &[("P/RIGHT", 2)]],
-        &[gets(RIGHT_GETS, 2, NO_ROW), gets(LEFT_GETS, NO_ROW, 2)],
+        &[[RIGHT_GETS, 2, NO_ROW], [LEFT_GETS, NO_ROW, 2]],
         [
             &[("p/Left", 1), ("p/RIGHT", 2)],
             &[("p/Left", 1), ("p/RIGHT", 2)],
@@ -153,7 +141,7 @@ fn each_side_keeps_its_own_and_takes_the_others_for_what_is_new() {
     // A folder for a file, and within it nothing that the left had.
     due(
         [&[("N", 1)], &[("n", 1)], &[("N/Day", 2)]],
-        &[gets(LEFT_GETS, 1, 1)],
+        &[[LEFT_GETS, 1, 1]],
         [&[("n/Day", 2)], &[("n/Day", 2)], &[("N/Day", 2)]],
     );
 }
@@ -162,13 +150,13 @@ fn each_side_keeps_its_own_and_takes_the_others_for_what_is_new() {
 fn the_archive_has_its_own_spelling_at_and_beneath_a_clash() {
     due(
         [&[("Q/Day", 1)], &[("q/DAY", 2)], &[("Q/day", 3)]],
-        &[clash([2, 2], [0, 0])],
+        &[[CLASH, 2, 2]],
         [&[("q/Day", 1)], &[("q/DAY", 2)], &[("Q/day", 3)]],
     );
     let (l, r): (Listed, Listed) = (&[("q/DAY", 2)], &[("Q", 3)]);
     due(
         [&[("Q/Day", 1), ("Q/Old/One", 1)], l, r],
-        &[clash([1, 1], [1, 0])],
+        &[[CLASH, 1, 1]],
         [&[("Q/Day", 1), ("Q/Old/One", 1)], l, r],
     );
     // Nothing where the archive has nothing, and the left's beside a clash.
@@ -178,7 +166,7 @@ fn the_archive_has_its_own_spelling_at_and_beneath_a_clash() {
             &[("e/x", 1), ("e/y", 1)],
             &[("E/X", 2), ("E/Y", 1)],
         ],
-        &[clash([2, 2], [0, 0])],
+        &[[CLASH, 2, 2]],
         [
             &[("e/y", 1)],
             &[("e/x", 1), ("e/y", 1)],
@@ -195,11 +183,11 @@ fn the_list_is_in_folded_order_and_its_rows_match_by_key() {
         &[("A", 2), ("b", 2), ("D", 2)],
     ]);
     let due = [
-        gets(RIGHT_GETS, 1, NO_ROW),
-        gets(LEFT_GETS, NO_ROW, 1),
-        clash([2, 2], [0, 0]),
-        gets(RIGHT_GETS, 3, NO_ROW),
-        gets(LEFT_GETS, NO_ROW, 3),
+        [RIGHT_GETS, 1, NO_ROW],
+        [LEFT_GETS, NO_ROW, 1],
+        [CLASH, 2, 2],
+        [RIGHT_GETS, 3, NO_ROW],
+        [LEFT_GETS, NO_ROW, 3],
     ];
     assert_eq!(
         (outcome.list.as_slice(), outcome.tally),

@@ -2,26 +2,24 @@
 
 use reference::generate::{self, Random, Three};
 use reference::{
-    carried, check, make_move, reconcile, slots, table, Entry, Node, Outcome, Path, Profile, Rooms,
-    CLASH, ENTRY, LEFT, LEFT_GETS, MOST_ROWS, NO_ROW, PROFILES, RIGHT_GETS, ROW,
+    carried, check, make_move, reconcile, slots, table, Node, Outcome, Path, Profile, Rooms, CLASH,
+    LEFT, LEFT_GETS, MOST_ROWS, NO_ROW, PROFILES, RIGHT_GETS, ROW,
 };
 
 const AMPLE: usize = MOST_ROWS * ROW;
 
-/// The kind, the path and the two places of an entry.
-type Listed = (u32, Path, [u32; 2]);
-
-/// The list with paths instead of rows.
-fn listed(profile: Profile, outcome: &Outcome, left: &[u32], right: &[u32]) -> Vec<Listed> {
+/// The list's kinds and paths.
+fn listed(profile: Profile, outcome: &Outcome, left: &[u32], right: &[u32]) -> Vec<(u32, Path)> {
     let [left, right] = [left, right].map(|table| check(profile, table).unwrap().paths());
-    let told = |[kind, left_row, right_row, places @ ..]: &Entry| {
-        let path = match *left_row {
-            NO_ROW => &right[*right_row as usize],
-            row => &left[row as usize],
-        };
-        (*kind, path.clone(), *places)
+    let path = |entry: &[u32; 3]| match entry[1] {
+        NO_ROW => right[entry[2] as usize].clone(),
+        row => left[row as usize].clone(),
     };
-    outcome.list.iter().map(told).collect()
+    outcome
+        .list
+        .iter()
+        .map(|entry| (entry[0], path(entry)))
+        .collect()
 }
 
 /// Random trees to reconcile that fit all limits, and what came of them.
@@ -55,18 +53,18 @@ fn cut_short(rng: &mut Random, profile: Profile, kinds: &mut [u32; 3]) {
     rng.shuffle(&mut order);
     let done = rng.below(order.len() + 1);
     let mut sides = [l, r];
-    for (kind, path, _) in &order[..done] {
+    for (kind, path) in &order[..done] {
         carry_out(profile, *kind, path, &mut sides);
     }
     let [left, right] = &sides;
     let again = reconcile(profile, &o, left, right, Rooms::AMPLE).unwrap();
-    let is_left = |entry: &&Listed| !order[..done].contains(entry);
+    let is_left = |entry: &&(u32, Path)| !order[..done].contains(entry);
     let rest: Vec<_> = list.iter().filter(is_left).cloned().collect();
     assert_eq!(listed(profile, &again, left, right), rest);
     // The tables are alike to the byte, also where letter case is ignored.
     assert_eq!(again.archive, first.archive);
     assert_eq!((&again.left, &again.right), (&first.left, &first.right));
-    for (kind, path, _) in &order[done..] {
+    for (kind, path) in &order[done..] {
         carry_out(profile, *kind, path, &mut sides);
     }
     assert_eq!(sides, [first.left, first.right]);
@@ -112,7 +110,7 @@ fn the_new_archive_by_cases() {
             let (old, new) = (tree(&o), tree(&outcome.archive));
             let (left, right) = (tree(&outcome.left), tree(&outcome.right));
             let mut expected = left.clone();
-            for (kind, path, _) in listed(profile, &outcome, &l, &r) {
+            for (kind, path) in listed(profile, &outcome, &l, &r) {
                 if kind == CLASH {
                     assert_eq!(new.at(&path), old.at(&path));
                     // Taken away first, so that the old name comes with its spelling.
@@ -139,10 +137,7 @@ fn left_and_right_change_places() {
             assert_eq!((&one.left, &one.right), (&other.right, &other.left));
             let archive = |outcome: &Outcome| check(profile, &outcome.archive).unwrap();
             assert_eq!(archive(&one), archive(&other));
-            let turned = |[kind, left, right, left_place, right_place]: &Entry| {
-                let kind = [0, 2, 1, 3][*kind as usize];
-                [kind, *right, *left, *right_place, *left_place]
-            };
+            let turned = |entry: &[u32; 3]| [[0, 2, 1, 3][entry[0] as usize], entry[2], entry[1]];
             assert_eq!(one.list.iter().map(turned).collect::<Vec<_>>(), other.list);
         }
     }
@@ -159,7 +154,7 @@ fn rooms_are_exact() {
         let words = [rooms.archive, rooms.left, rooms.right, rooms.list];
         let counts = outcome.counts();
         let is_short =
-            |side: &usize| words[*side] < counts[*side] as usize * [ROW, ROW, ROW, ENTRY][*side];
+            |side: &usize| words[*side] < counts[*side] as usize * [ROW, ROW, ROW, 3][*side];
         let answer = reconcile(profile, &o, &l, &r, rooms);
         match ((0..4).find(is_short), answer) {
             (None, Ok(same)) => assert_eq!(same, outcome),
@@ -182,7 +177,7 @@ fn the_rows_carried_arrive() {
         let ([_, l, r], outcome) = accepted(&mut rng, profile, 100);
         let new_left = check(profile, &outcome.left).unwrap();
         let paths = listed(profile, &outcome, &l, &r);
-        for (entry, (kind, path, _)) in outcome.list.iter().zip(paths) {
+        for (entry, (kind, path)) in outcome.list.iter().zip(paths) {
             let part = carried(profile, &l, &r, entry[0], entry[1], entry[2]);
             let Some(part) = part else {
                 assert!(kind == CLASH || new_left.at(&path).is_none());

@@ -6,8 +6,8 @@ use common::{no, path, rows, wide};
 use reference::lent::{self, Buffers};
 use reference::Profile::Exact;
 use reference::{
-    check, make_move, numbers, reconcile, slots, table, write, Node, Refusal, Rooms, ENTRY,
-    MOST_ROWS, NO_PLACE, NO_ROW, ROW,
+    check, make_move, numbers, reconcile, slots, table, write, Node, Refusal, Rooms, MOST_ROWS,
+    NO_ROW, ROW,
 };
 
 #[test]
@@ -42,7 +42,7 @@ fn rooms_in_order_and_whole_rows() {
         archive: 39,
         left: 39,
         right: 39,
-        list: 4,
+        list: 2,
     };
     for side in 1..=4 {
         assert_eq!(no(reconcile(Exact, &o, &l, &o, rooms)), [3, side, 0]);
@@ -50,7 +50,7 @@ fn rooms_in_order_and_whole_rows() {
             1 => rooms.archive = 40,
             2 => rooms.left = 59,
             3 => rooms.right = 40,
-            _ => rooms.list = 9,
+            _ => rooms.list = 5,
         }
     }
     assert!(reconcile(Exact, &o, &l, &o, rooms).is_ok());
@@ -123,11 +123,8 @@ fn a_list_has_the_lent_room_only() {
         };
         reconcile(Exact, &old, &new, &old, rooms)
     };
-    assert_eq!(
-        run(ENTRY * 8190).unwrap().counts(),
-        [4096, 4096, 4096, 8190]
-    );
-    assert_eq!(no(run(ENTRY * 8190 - 1)), [3, 4, 0]);
+    assert_eq!(run(3 * 8190).unwrap().counts(), [4096, 4096, 4096, 8190]);
+    assert_eq!(no(run(3 * 8190 - 1)), [3, 4, 0]);
 }
 
 #[test]
@@ -137,13 +134,13 @@ fn what_is_left_in_lent_buffers() {
         archive: 45,
         left: 40,
         right: 41,
-        list: 4,
+        list: 2,
     };
     let mut lent = Buffers::filled(rooms, 9);
     let untouched = lent.clone();
     assert_eq!(no(lent::reconcile(Exact, &o, &l, &o, &mut lent)), [3, 4, 0]);
     assert_eq!(lent, untouched);
-    lent.list = vec![9; 7];
+    lent.list = vec![9; 5];
     assert_eq!(
         lent::reconcile(Exact, &o, &l, &o, &mut lent).unwrap(),
         [2, 2, 2, 1]
@@ -151,7 +148,7 @@ fn what_is_left_in_lent_buffers() {
     assert_eq!(lent.archive, [&l[..], &[9; 5]].concat());
     assert_eq!(
         (lent.list, lent.tally),
-        (vec![2, 1, NO_ROW, NO_PLACE, NO_PLACE, 9, 9], [0, 1, 0])
+        (vec![2, 1, NO_ROW, 9, 9], [0, 1, 0])
     );
     let mut text = vec![9; 200];
     let answer = lent::write(Exact, &o, &mut text);

@@ -1,4 +1,4 @@
--- `plan_carry_out::carry_out` meets its contract: each plan has six words for each row that it is made for.
+-- `plan_carry_out::carry_out` meets its contract: each plan has four words for each row that it is made for.
 use native.Mathlib.Omega.{arith}
 use lib.ListN.{length-replicate}
 use Prim.Native.Nat.{ℕ}
@@ -12,10 +12,7 @@ with-plan-requires-3 : tie.Need-with-plan-requires-3
 with-plan-requires-3 c κs =
     let e = c.before.before.before.before.before.before in
     let p = e.before.before.before.before.before.before.before.before.requires in
-    (p, omega (arith, length-replicate {A = ℕ} 73728 0, passed_words _ _ p.0, passed_words _ _ p.1, passed_words _ _ p.2))
-
-with-plan-requires-2 : tie.Need-with-plan-requires-2
-with-plan-requires-2 c κs = (search rules, omega (arith, length-replicate {A = ℕ} 6144 0))
+    (p, omega (arith, length-replicate {A = ℕ} 49152 0, passed_words _ _ p.0, passed_words _ _ p.1, passed_words _ _ p.2))
 
 pub carry-out-spec : {M : Type 1} → statement M
 carry-out-spec =
@@ -31,7 +28,7 @@ carry-out-spec =
     (λ c. search rules)
     (λ c. search rules)
     (λ c. search rules)
-    with-plan-requires-2
+    (λ c κs. search rules)
     (λ c. search rules)
     (λ c. search rules)
     (λ c. search rules)

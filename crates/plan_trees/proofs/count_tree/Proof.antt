@@ -39,7 +39,7 @@ loop-again c =
     let a = s.args in
     let b = source-small a.o.now a.l.now a.r.now s.requires.0 c.before.takes.result in
     let e = rw (c.before.takes.ensures, d.decode.ensures) at c.source-len.ensures in
-    let m = piece-length a.tree a.o.now a.l.now a.r.now s.requires.0 (decision_of (drop (6 * l.loop.k) a.plan.now)) in
+    let m = piece-length a.tree a.o.now a.l.now a.r.now s.requires.0 (decision_of (drop (4 * l.loop.k) a.plan.now)) in
     count_next l.loop.invariant (search rules) (cc) (omega arith)
 
 returns : tie.Need-returns invariant-loop decreases-loop

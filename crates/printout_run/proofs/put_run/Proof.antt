@@ -12,19 +12,19 @@ use Rattle.printout_run.proofs.put_run.Statement.{statement}
 use Rattle.printout_run.proofs.put_run.Tie as tie
 
 -- the results' rooms
-rooms : (t : Tally) → Ample (lent (replicate 7640 0) (replicate 7640 0) (replicate 7640 0) (replicate 1910 0) t)
+rooms : (t : Tally) → Ample (lent (replicate 7640 0) (replicate 7640 0) (replicate 7640 0) (replicate 1146 0) t)
 rooms t =
     let n = length-replicate {A = ℕ} 7640 0 in
-    record { archive = n; left = n; right = n; list = length-replicate {A = ℕ} 1910 0 }
+    record { archive = n; left = n; right = n; list = length-replicate {A = ℕ} 1146 0 }
 
 -- the entries listed
-few : (c : tie.After-reconcile-plain) → 5 * c.reconcile-plain.result.answer.list ≤ 1910
+few : (c : tie.After-reconcile-plain) → 3 * c.reconcile-plain.result.answer.list ≤ 1146
 few c =
     let s = c.before.before.before.before.before.before.before.before.before in
     entries-few s.args.profile s.args.o.now s.args.l.now s.args.r.now s.requires.0 s.requires.1 s.requires.2 _ _ (rooms _) _ c.reconcile-plain.ensures
 
-long : (c : tie.After-reconcile-plain) → length c.reconcile-plain.new.1.1.1.1.1.1.1.0 ≡ 1910
-long c = c.reconcile-plain.auto.1.1.1.1.1.1.1.0 ∙ length-replicate {A = ℕ} 1910 0
+long : (c : tie.After-reconcile-plain) → length c.reconcile-plain.new.1.1.1.1.1.1.1.0 ≡ 1146
+long c = c.reconcile-plain.auto.1.1.1.1.1.1.1.0 ∙ length-replicate {A = ℕ} 1146 0
 
 mul-end : tie.Need-overflow-mul-end
 mul-end c = let n = few c.before.before.before.before.before.before in omega arith

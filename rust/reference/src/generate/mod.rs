@@ -1,6 +1,5 @@
 //! Random inputs for comparisons: trees, tables, rooms, paths and texts of a profile, all from a seed.
 
-mod clashes;
 mod faults;
 mod layout;
 mod misplaced;
@@ -12,7 +11,6 @@ mod texts;
 mod trees;
 mod words;
 
-pub use clashes::clashing;
 pub use faults::{faulty, Faulty, FAULTS};
 pub use layout::{layout, listing, Before, Layout, Line, What};
 pub use shapes::{changed, shaped, strewn, Change, Shape, CHANGES, SHAPES};
@@ -21,7 +19,7 @@ pub use tables::{altered, damaged, entry, path, Damage, Damaged, DAMAGES};
 pub use texts::{crowd, hurt, padded, soup};
 pub use trees::{edited, file, name, three, tree, Three};
 
-use crate::reconcile::{Outcome, Rooms, ENTRY};
+use crate::reconcile::{Outcome, Rooms};
 use crate::table::{MOST_ROWS, ROW};
 
 /// A small generator of numbers (splitmix64): the same seed gives the same numbers everywhere.
@@ -104,7 +102,7 @@ pub fn rooms(rng: &mut Random, outcome: &Outcome) -> Rooms {
         archive: one(0, ROW),
         left: one(1, ROW),
         right: one(2, ROW),
-        list: one(3, ENTRY),
+        list: one(3, 3),
     }
 }
 

@@ -2,7 +2,7 @@
 #![allow(dead_code)]
 
 use reference::Profile::{self, Exact};
-use reference::{name_words, table, Entry, Node, Path, CLASH, NO_PLACE, ROW};
+use reference::{name_words, table, Node, Path, ROW};
 
 /// A file of the given content number.
 pub fn file(content: u32) -> Node {
@@ -54,16 +54,6 @@ pub fn rows(listed: &[(&str, u32)]) -> Vec<u32> {
 /// The table of such a tree.
 pub fn rows_in(profile: Profile, listed: &[(&str, u32)]) -> Vec<u32> {
     table(&tree_in(profile, listed))
-}
-
-/// The entry of a move, which has no places.
-pub fn gets(kind: u32, left_row: u32, right_row: u32) -> Entry {
-    [kind, left_row, right_row, NO_PLACE, NO_PLACE]
-}
-
-/// The entry of a clash.
-pub fn clash([left_row, right_row]: [u32; 2], [left_place, right_place]: [u32; 2]) -> Entry {
-    [CLASH, left_row, right_row, left_place, right_place]
 }
 
 /// Number, side and place of a refusal.
