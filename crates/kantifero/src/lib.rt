@@ -1,5 +1,7 @@
 // The public calls for programs in C and Rust. Each takes its profile as a word, and every answer is eight words, all of which
 // are written.
+#![tactic(auto)]
+
 ghost use Rattle.std.specs.Prelude.{◌≡◌, ◌<◌};
 ghost use Rattle.plan_run.specs.Run.{lent};
 ghost use Rattle.kantifero_calls.specs.Words.{profile_of, check_words, tally_in};

@@ -1,1 +1,2 @@
 // Definitions and proofs alone: this crate has no code.
+#![tactic(auto)]

@@ -1,4 +1,6 @@
 // The eight words of an answer, and a profile from its word.
+#![tactic(auto)]
+
 ghost use Rattle.std.specs.Prelude.{◌≡◌, ◌<◌};
 ghost use Rattle.table_rules.specs.Answer.{place_of};
 ghost use Rattle.kantifero_calls.specs.Words.{profile_of, eight, answer_words, reconciled_words, Narrow};

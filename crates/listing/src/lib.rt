@@ -1,4 +1,5 @@
 // The classes of a listing's bytes, and where in a line a byte leaves the reader.
+#![tactic(auto)]
 
 // What a byte may be in a text.
 #[derive(Drop)]

@@ -1,4 +1,6 @@
 // A listing's bytes: what class each is of, where in a line it leaves the reader, and the values of digits.
+#![tactic(auto)]
+
 ghost use Rattle.std.specs.Prelude.{◌≡◌};
 ghost use Rattle.listing.specs.Bytes.{class_of, Digit};
 ghost use Rattle.listing.specs.Lines.{by_end, begin_of, step_of, is_done};

@@ -1,4 +1,6 @@
 // What a row holds, as the words of a line: a file's size and digest.
+#![tactic(auto)]
+
 ghost use Rattle.std.specs.Prelude.{◌≡◌, ◌+◌, ◌-◌, ◌*◌, ◌≤◌, ◌<◌, ◌^◌, length, get_or};
 ghost use Rattle.table_row.specs.Table.{row_at, content};
 ghost use Rattle.listing_spell.specs.Puts.{Puts};

@@ -1,4 +1,6 @@
 // The line of the root, of an entry, and of a folder's end.
+#![tactic(auto)]
+
 ghost use Rattle.std.specs.Prelude.{◌≡◌, ◌-◌, ◌≤◌, ◌<◌, length, take, drop};
 ghost use Rattle.listing.specs.Words.{words};
 ghost use Rattle.listing.specs.Reading.{close_line, entry_line};

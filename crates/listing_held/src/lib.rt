@@ -1,4 +1,6 @@
 // What the entry of a line holds, and what the root does.
+#![tactic(auto)]
+
 ghost use Rattle.std.specs.Prelude.{◌≡◌, [], ◌∷◌, ◌≤◌, length, drop};
 ghost use Rattle.listing.specs.Words.{Words, words};
 ghost use Rattle.listing.specs.Entries.{Entry.faulty, type_in, one_each, entry_of, root_as};

@@ -1,4 +1,6 @@
 // A keyword among the words of a line: how often it is there, its value, and the line's type.
+#![tactic(auto)]
+
 ghost use Rattle.std.specs.Prelude.{◌≡◌, ◌≤◌, length, drop};
 ghost use Rattle.listing.specs.Words.{Words, words, values};
 ghost use Rattle.listing.specs.Reading.{is_empty};

@@ -1,4 +1,6 @@
 // The name that a word spells: escapes undone, and its bytes as eight words.
+#![tactic(auto)]
+
 ghost use Rattle.std.specs.Prelude.{◌≡◌, ◌+◌, ◌≤◌, ◌<◌, length, drop, get_or};
 ghost use Rattle.listing.specs.Bytes.{class_of, digit_value, Digit};
 ghost use Rattle.listing.specs.Names.{octal as octal_of, spelt_as, quad as quad_of, packed};

@@ -1,4 +1,6 @@
 // Sizes and digests spelled.
+#![tactic(auto)]
+
 ghost use Rattle.std.specs.Prelude.{◌≡◌, [], ◌+◌, ◌≤◌, ◌<◌, ◌^◌, length, drop};
 ghost use Rattle.tree.specs.Rules.{bytes};
 ghost use Rattle.listing.specs.Writing.{decimal, hex_digit, hex};

@@ -1,4 +1,6 @@
 // A row put into the table, where the state of reading says.
+#![tactic(auto)]
+
 ghost use Rattle.std.specs.Prelude.{◌≡◌, ◌-◌, ◌*◌, ◌<◌, ltb};
 ghost use Rattle.table_row.specs.Tree.{file_row};
 ghost use Rattle.listing.specs.Reading.{most_rows};

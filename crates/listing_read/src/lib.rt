@@ -1,4 +1,6 @@
 // Reading an mtree listing into a table, in a profile.
+#![tactic(auto)]
+
 ghost use Rattle.listing_read_lines.specs.Contract.{ReadContract};
 
 use tree::Profile;

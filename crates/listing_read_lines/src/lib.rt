@@ -1,4 +1,6 @@
 // The lines of a text read one by one, a text's form, and the answer at its end.
+#![tactic(auto)]
+
 ghost use Rattle.std.specs.Prelude.{◌≡◌, length};
 ghost use Rattle.listing.specs.Lines.{lines};
 ghost use Rattle.listing.specs.Entries.{Said.none};

@@ -1,4 +1,6 @@
 // The reader's state: a default set, a folder opened or closed, the row last put in.
+#![tactic(auto)]
+
 ghost use Rattle.std.specs.Prelude.{◌≡◌, ◌+◌, ◌≤◌, ◌<◌};
 ghost use Rattle.listing_reader.specs.Does.{Fresh, Sets, Leaves, Roots, entered};
 

@@ -1,4 +1,6 @@
 // The rows of a table as lines of a listing.
+#![tactic(auto)]
+
 ghost use Rattle.std.specs.Prelude.{◌≡◌, ◌+◌, ◌-◌, ◌*◌, ◌≤◌, ◌<◌, ◌^◌, length, drop};
 ghost use Rattle.table_row.specs.Table.{row_at, rows};
 ghost use Rattle.listing_spell.specs.Puts.{Puts};

@@ -1,4 +1,6 @@
 // A text's lines as places in it.
+#![tactic(auto)]
+
 ghost use Rattle.std.specs.Prelude.{◌≡◌, true, ◌+◌, ◌≤◌, ◌<◌, length, drop};
 ghost use Rattle.listing.specs.Lines.{len_in};
 ghost use Rattle.listing.specs.declared.Mode.TheVariants.{Lead, Body};

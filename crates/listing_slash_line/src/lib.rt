@@ -1,4 +1,6 @@
 // The lines that set and clear a default.
+#![tactic(auto)]
+
 ghost use Rattle.std.specs.Prelude.{◌-◌, ◌≤◌, length, take, drop};
 ghost use Rattle.listing.specs.Words.{words};
 ghost use Rattle.listing.specs.Entries.{Said.none};

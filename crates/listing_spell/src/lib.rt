@@ -1,4 +1,6 @@
 // Bytes put into a text, and a name spelled.
+#![tactic(auto)]
+
 ghost use Rattle.std.specs.Prelude.{◌≡◌, ◌∷◌, [], ◌+◌, ◌*◌, ◌<◌, ◌^◌, length, get_or};
 ghost use Rattle.tree.specs.Rules.{bytes};
 ghost use Rattle.listing.specs.Writing.{as_it_is, spell_byte, name_text};

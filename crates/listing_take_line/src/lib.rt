@@ -1,4 +1,6 @@
 // What one line of a listing does to the reader's state and to the table, in a profile.
+#![tactic(auto)]
+
 ghost use Rattle.std.specs.Prelude.{◌-◌, ◌≤◌, ◌<◌, length, take, drop};
 ghost use Rattle.listing.specs.Words.{words};
 ghost use Rattle.listing.specs.Reading.{line_does};

@@ -1,4 +1,6 @@
 // What a word says besides a name: a keyword, a size, a digest.
+#![tactic(auto)]
+
 ghost use Rattle.std.specs.Prelude.{◌≡◌, true, cond, map, ◌-◌, ◌<◌, ◌≤◌, length, take};
 ghost use Rattle.tree.specs.Same.{same_words};
 ghost use Rattle.listing.specs.Bytes.{digit_value, within};

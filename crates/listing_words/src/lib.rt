@@ -1,4 +1,6 @@
 // A line's words as places in the text, and whether a text's bytes are those of a listing.
+#![tactic(auto)]
+
 ghost use Rattle.std.specs.Prelude.{◌≡◌, ◌+◌, ◌≤◌, ◌<◌, eqb, length, drop, get_or};
 ghost use Rattle.tree.specs.Same.{same_words};
 ghost use Rattle.listing.specs.Bytes.{class_of};

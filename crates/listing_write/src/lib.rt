@@ -1,4 +1,6 @@
 // Writing a table as an mtree listing.
+#![tactic(auto)]
+
 ghost use Rattle.std.specs.Prelude.{◌≡◌, ◌-◌, ◌<◌, length};
 ghost use Rattle.table_row.specs.Tree.{tree_of};
 ghost use Rattle.tree.specs.declared.Profile.{Profile};

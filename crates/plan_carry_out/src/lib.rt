@@ -1,4 +1,6 @@
 // A run over tables that pass, with a scratch array by their rows.
+#![tactic(auto)]
+
 ghost use Rattle.table_rules.specs.Keyed.{Passes};
 ghost use Rattle.plan_run.specs.Run.{lent};
 ghost use Rattle.plan_run.specs.Steps.{Settles};

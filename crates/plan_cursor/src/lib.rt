@@ -1,4 +1,6 @@
 // Three tables looked at through a row number of each: the next entry, the entries of the least name, the decision there.
+#![tactic(auto)]
+
 ghost use Rattle.std.specs.Prelude.{◌≡◌, true, ◌+◌, ◌*◌, ◌%◌, ◌≤◌, length};
 ghost use Rattle.plan_cursor.specs.Cursor.{is_row, from, order_at, not_after, keep, turned, least, behind, is_folder, decision};
 

@@ -1,4 +1,6 @@
 // One item of the plan as a decision, and what a result takes by it.
+#![tactic(auto)]
+
 ghost use Rattle.std.specs.Prelude.{◌≡◌, ◌+◌, ◌-◌, ◌*◌, ◌%◌, ◌≤◌, length, drop};
 ghost use Rattle.table_row.specs.Table.{row_at};
 ghost use Rattle.plan_results.specs.Decisions.{decision_of};

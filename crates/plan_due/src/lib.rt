@@ -1,4 +1,6 @@
 // The answer that three tables and four rooms are due.
+#![tactic(auto)]
+
 ghost use Rattle.std.specs.Prelude.{◌≡◌, ◌/◌};
 ghost use Rattle.plan_run.specs.Answer.{answer_with};
 ghost use Rattle.plan_run.specs.Run.{twins_of, tables_due, rooms_due};

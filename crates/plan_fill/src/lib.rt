@@ -1,4 +1,6 @@
 // The results of a plan, counted and written into the lent buffers.
+#![tactic(auto)]
+
 ghost use Rattle.std.specs.Prelude.{◌≡◌, ◌*◌, ◌/◌, ◌≤◌, length};
 ghost use Rattle.plan.specs.Settle.{Three};
 ghost use Rattle.plan_results.specs.Decisions.{decisions};

@@ -1,4 +1,6 @@
 // A run over tables that pass, with a plan that is lent: settled, counted, tried for room, written and tallied.
+#![tactic(auto)]
+
 ghost use Rattle.std.specs.Prelude.{◌*◌, ◌≤◌, length};
 ghost use Rattle.table_rules.specs.Keyed.{Passes};
 ghost use Rattle.plan_run.specs.Run.{lent};

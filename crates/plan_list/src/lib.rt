@@ -1,4 +1,6 @@
 // The list of moves and clashes, counted and written by one loop over the plan.
+#![tactic(auto)]
+
 ghost use Rattle.std.specs.Prelude.{◌≡◌, ◌+◌, ◌-◌, ◌*◌, ◌≤◌, length};
 ghost use Rattle.plan.specs.Writes.{Writes, Fills};
 ghost use Rattle.plan_results.specs.Decisions.{decisions, pieces};

@@ -1,4 +1,6 @@
 // What a result takes at one item of the plan: rows counted, copied, and named as the side names them.
+#![tactic(auto)]
+
 ghost use Rattle.std.specs.Prelude.{◌≡◌, ◌+◌, ◌-◌, ◌%◌, ◌≤◌, length, take, drop};
 ghost use Rattle.table_row.specs.Buffer.{written};
 ghost use Rattle.plan.specs.Settle.{Three};

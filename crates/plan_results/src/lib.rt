@@ -1,4 +1,5 @@
 // Which result is written, and where it takes its rows from.
+#![tactic(auto)]
 
 // The new trees.
 #[derive(Drop)]

@@ -1,4 +1,6 @@
 // The answer of a reconciliation, and what it counts.
+#![tactic(auto)]
+
 use plan_tally::Tally;
 
 // What a reconciliation answers: number, side and place; accepted, the rows of the new archive, left and right, and the

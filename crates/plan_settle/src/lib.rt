@@ -1,4 +1,6 @@
 // Three tables settled in a profile: as they are, or as tables of keys.
+#![tactic(auto)]
+
 ghost use Rattle.std.specs.Prelude.{◌≤◌, length};
 ghost use Rattle.table_row.specs.Keyed.{keyed};
 ghost use Rattle.plan.specs.Settle.{Three, settled};

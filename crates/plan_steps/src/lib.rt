@@ -1,4 +1,6 @@
 // The steps of settling: the first entries of three folders, past them, their end, and an item put into the plan.
+#![tactic(auto)]
+
 ghost use Rattle.std.specs.Prelude.{◌≡◌, ◌+◌, ◌-◌, ◌≤◌, length};
 ghost use Rattle.plan.specs.Settle.{Three, decision_words, ended, past, firsts, both, entry};
 ghost use Rattle.plan.specs.Writes.{Writes};

@@ -1,4 +1,6 @@
 // The tally: how many entries of each kind a list has.
+#![tactic(auto)]
+
 ghost use Rattle.std.specs.Prelude.{◌≡◌, ◌*◌, ◌≤◌, length};
 ghost use Rattle.plan_tally.specs.Count.{counted, counted_all};
 

@@ -1,4 +1,6 @@
 // One entry of a list as text: its mark and its path.
+#![tactic(auto)]
+
 ghost use Rattle.std.specs.Prelude.{◌+◌, ◌*◌, ◌≤◌, ◌<◌, ◌^◌, length, drop};
 ghost use Rattle.listing_spell.specs.Puts.{Puts};
 ghost use Rattle.plan_text.specs.Text.{mark};

@@ -1,4 +1,6 @@
 // A row's path as text, in the table of its side.
+#![tactic(auto)]
+
 ghost use Rattle.std.specs.Prelude.{◌+◌, ◌*◌, ◌≤◌, ◌<◌, ◌/◌, ◌^◌, length};
 ghost use Rattle.listing_spell.specs.Puts.{Puts};
 ghost use Rattle.table_route.specs.Route.{path_of};

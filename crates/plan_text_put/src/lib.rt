@@ -1,4 +1,6 @@
 // A reconciliation's list as text: a line for each entry, and a last one with the counts.
+#![tactic(auto)]
+
 ghost use Rattle.std.specs.Prelude.{◌+◌, ◌≤◌, ◌<◌, ◌/◌, ◌^◌, length};
 ghost use Rattle.listing_spell.specs.Puts.{Puts};
 ghost use Rattle.plan_text.specs.Text.{count_text, counts_text};

@@ -1,4 +1,6 @@
 // The new archive, left and right, each counted and written by one loop over the plan.
+#![tactic(auto)]
+
 ghost use Rattle.std.specs.Prelude.{◌≡◌, ◌+◌, ◌-◌, ◌*◌, ◌≤◌, length};
 ghost use Rattle.plan.specs.Settle.{Three};
 ghost use Rattle.plan.specs.Writes.{Fills};

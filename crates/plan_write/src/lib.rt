@@ -1,4 +1,6 @@
 // Settling: the entries of three folders merged by name, and a plan item of four words for each.
+#![tactic(auto)]
+
 ghost use Rattle.std.specs.Prelude.{◌+◌, ◌-◌, ◌≤◌, ◌<◌, length};
 ghost use Rattle.plan.specs.Settle.{Three, entry, folder, settled};
 ghost use Rattle.plan.specs.Writes.{Writes, Fills};

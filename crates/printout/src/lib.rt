@@ -1,4 +1,6 @@
 // What syncplan prints for the texts of three files.
+#![tactic(auto)]
+
 ghost use Rattle.listing_spell.specs.Puts.{Puts};
 ghost use Rattle.printout_text.specs.Printed.{printed};
 

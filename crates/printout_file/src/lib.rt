@@ -1,4 +1,6 @@
 // A file's text read, and what is printed for one that is refused.
+#![tactic(auto)]
+
 ghost use Rattle.std.specs.Prelude.{◌≡◌, ◌≤◌, length};
 ghost use Rattle.listing_spell.specs.Puts.{Puts};
 ghost use Rattle.printout_text.specs.Printed.{file_read, refused_text};

@@ -1,4 +1,6 @@
 // What is printed for three tables: their plan.
+#![tactic(auto)]
+
 ghost use Rattle.table_row.specs.Tree.{tree_of};
 ghost use Rattle.listing_spell.specs.Puts.{Puts};
 ghost use Rattle.plan_text.specs.Spelled.{run_text};

@@ -1,4 +1,6 @@
 // Reconciling three tables, with the tally in a record that the caller lends.
+#![tactic(auto)]
+
 ghost use Rattle.std.specs.Prelude.{◌*◌};
 ghost use Rattle.plan_run.specs.Run.{lent, ReconcileContract};
 

@@ -1,4 +1,6 @@
 // Reconciling three tables: the new archive, the new left, the new right and the list, with the tally by value.
+#![tactic(auto)]
+
 ghost use Rattle.plan_run.specs.Run.{lent, ReconcileContract};
 
 use plan_run::{Counts, Ran};

@@ -1,5 +1,7 @@
 // syncplan: three listings in the working directory, the plan on standard output; with --ignore-case where letter case is
 // ignored.
+#![tactic(auto)]
+
 use libc::{STDERR_FILENO, STDOUT_FILENO};
 use syncplan_files::Wish;
 

@@ -1,4 +1,6 @@
 // The answers that tables are due, the first of them, and the call that checks a table.
+#![tactic(auto)]
+
 ghost use Rattle.std.specs.Prelude.{◌≡◌, ◌∷◌, [], ◌-◌, ◌<◌};
 ghost use Rattle.table_rules.specs.Refusal.{refusal_of, twins_due};
 ghost use Rattle.table_rules.specs.Faults.{first_refusal, unless, room_rule};

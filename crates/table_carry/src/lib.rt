@@ -1,4 +1,6 @@
 // The rows that a list entry carries, as a part of the left or the right table.
+#![tactic(auto)]
+
 ghost use Rattle.std.specs.Prelude.{◌≡◌, ◌&&◌};
 ghost use Rattle.table_carry.specs.Carried.{passes as passes_rules, carried_rows};
 

@@ -1,4 +1,6 @@
 // The row rules: which row of a table is the lowest that breaks them, and which is the lowest twin.
+#![tactic(auto)]
+
 ghost use Rattle.std.specs.Prelude.{◌≡◌, true, ◌+◌, ◌-◌, ◌*◌, ◌≤◌, ◌<◌, length};
 ghost use Rattle.tree.specs.Rules.{zeros};
 ghost use Rattle.table_row.specs.Table.{row_at};

@@ -1,4 +1,6 @@
 // Names compared as they are or by their keys.
+#![tactic(auto)]
+
 ghost use Rattle.std.specs.Prelude.{◌≡◌, ◌+◌, ◌*◌, ◌≤◌, ◌<◌, length};
 ghost use Rattle.tree.specs.Name.{cmp};
 ghost use Rattle.tree.specs.declared.Profile.TheVariants.{Folded};

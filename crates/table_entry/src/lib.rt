@@ -1,4 +1,6 @@
 // An entry of a folder by its name.
+#![tactic(auto)]
+
 ghost use Rattle.std.specs.Prelude.{◌+◌, ◌*◌, ◌≤◌, length};
 ghost use Rattle.table_find.specs.Entry.{child, Finds};
 

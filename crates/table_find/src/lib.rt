@@ -1,4 +1,6 @@
 // Where a row's subtree ends, its words, and whether two subtrees are the same.
+#![tactic(auto)]
+
 ghost use Rattle.std.specs.Prelude.{◌≡◌, true, ◌+◌, ◌*◌, ◌%◌, ◌≤◌, length};
 ghost use Rattle.tree.specs.Same.{same_words};
 ghost use Rattle.table_row.specs.Table.{row_at};

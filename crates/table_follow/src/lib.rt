@@ -1,4 +1,6 @@
 // Where a path leads in a tree table: it is followed one name at a time, in the subtree that each name gives.
+#![tactic(auto)]
+
 ghost use Rattle.std.specs.Prelude.{◌+◌, ◌≤◌, length, take, drop};
 ghost use Rattle.table_find.specs.Entry.{Finds};
 ghost use Rattle.table_follow.specs.Follow.{follow};

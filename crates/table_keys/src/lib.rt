@@ -1,4 +1,6 @@
 // A name's key, and a table of keys.
+#![tactic(auto)]
+
 ghost use Rattle.std.specs.Prelude.{◌≡◌, map, ◌+◌, ◌%◌, ◌≤◌, length, take, drop};
 ghost use Rattle.tree.specs.declared.Profile.TheVariants.{Folded};
 ghost use Rattle.tree.specs.Key.{lower_word, key};

@@ -1,4 +1,6 @@
 // One move carried out: a table, with its subtree at a path become another table's. Names are matched by a key.
+#![tactic(auto)]
+
 ghost use Rattle.std.specs.Prelude.{◌≤◌};
 ghost use Rattle.tree.specs.declared.Profile.TheVariants.{Exact, Folded};
 ghost use Rattle.table_rules.specs.Keyed.{Passes};

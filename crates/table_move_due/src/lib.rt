@@ -1,4 +1,6 @@
 // The answer that the tables and the path of a move are due.
+#![tactic(auto)]
+
 ghost use Rattle.std.specs.Prelude.{◌≡◌};
 ghost use Rattle.table_moved.specs.Pieces.{tables_due, inputs_due};
 

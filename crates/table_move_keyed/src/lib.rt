@@ -1,4 +1,6 @@
 // A move where letter case is ignored: carried out by tables of keys, each in a frame of its own.
+#![tactic(auto)]
+
 ghost use Rattle.std.specs.Prelude.{◌≤◌, length};
 ghost use Rattle.tree.specs.declared.Profile.TheVariants.{Folded};
 ghost use Rattle.table_moved.specs.Pieces.{Turn, CarriedOut};

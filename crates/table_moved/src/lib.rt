@@ -1,4 +1,5 @@
 // Words of a table from one place to another, as a move speaks of them.
+#![tactic(auto)]
 
 // Words of a table, from one place to another.
 #[derive(Drop)]

@@ -1,4 +1,6 @@
 // Whether eight words are a name that an entry may have.
+#![tactic(auto)]
+
 ghost use Rattle.std.specs.Prelude.{◌≡◌, true, ◌∷◌, [], ◌≤◌, ◌<◌, length, drop, get_or};
 ghost use Rattle.tree.specs.Rules.{zeros, bytes, zero_filled, good_name};
 ghost use Rattle.table_names.specs.Low.{low_bytes};

@@ -1,4 +1,6 @@
 // The path of a move: whether its slots are good, and its names by key.
+#![tactic(auto)]
+
 ghost use Rattle.std.specs.Prelude.{◌≡◌, map};
 ghost use Rattle.tree.specs.declared.Profile.TheVariants.{Folded};
 ghost use Rattle.tree.specs.Key.{key};

@@ -1,4 +1,6 @@
 // The result of a move as three pieces: before the place, what comes there, and behind it.
+#![tactic(auto)]
+
 ghost use Rattle.std.specs.Prelude.{◌≡◌, ◌++◌, ◌+◌, ◌*◌, take, drop};
 ghost use Rattle.table_row.specs.Buffer.{over};
 ghost use Rattle.table_respell.specs.Respell.{respelled};

@@ -1,4 +1,6 @@
 // The place of an entry among the others of a folder.
+#![tactic(auto)]
+
 ghost use Rattle.std.specs.Prelude.{◌≡◌, ◌+◌, ◌*◌, ◌≤◌, length};
 ghost use Rattle.table_row.specs.Table.{row_at, name as name_of};
 ghost use Rattle.table_find.specs.Entry.{up_to, place as place_of};

@@ -1,4 +1,6 @@
 // A row of one table, spelled as its counterpart in a folder of another table is.
+#![tactic(auto)]
+
 ghost use Rattle.std.specs.Prelude.{◌≡◌, ◌+◌, ◌*◌, ◌≤◌, length};
 ghost use Rattle.tree.specs.Key.{key};
 ghost use Rattle.table_row.specs.Buffer.{written};

@@ -1,4 +1,6 @@
 // The rows of a part of one table, spelled as the entries of a folder of another table are.
+#![tactic(auto)]
+
 ghost use Rattle.std.specs.Prelude.{◌≡◌, ◌+◌, ◌*◌};
 ghost use Rattle.tree.specs.declared.Profile.TheVariants.{Folded};
 ghost use Rattle.tree.specs.Key.{key};

@@ -1,4 +1,6 @@
 // The way up from a row of a tree table.
+#![tactic(auto)]
+
 ghost use Rattle.std.specs.Prelude.{◌≡◌, ◌+◌, ◌*◌, ◌≤◌, length};
 ghost use Rattle.table_route.specs.Route.{folder_of};
 

@@ -1,4 +1,6 @@
 // What is asked of a row beside those before it: depth, name, kind, and the order of two rows.
+#![tactic(auto)]
+
 ghost use Rattle.std.specs.Prelude.{◌≡◌, ◌+◌, ◌-◌, ◌*◌, ◌≤◌, ◌<◌, length};
 ghost use Rattle.tree.specs.Name.{cmp};
 ghost use Rattle.tree.specs.Key.{key};

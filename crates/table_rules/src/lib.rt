@@ -1,4 +1,5 @@
 // The answer of a call with one place, and what a check of a table finds.
+#![tactic(auto)]
 
 // The answer of a call that has one place.
 #[derive(Drop)]

@@ -1,4 +1,6 @@
 // A row put into its sorted place of a table: where a name goes among a folder's entries, by key, and the row put in there.
+#![tactic(auto)]
+
 ghost use Rattle.std.specs.Prelude.{◌≡◌, ◌+◌, ◌*◌, ◌-◌, ◌≤◌, length, take, drop};
 ghost use Rattle.table_row.specs.Table.{row_at, rows};
 ghost use Rattle.table_row.specs.Order.{ordered};

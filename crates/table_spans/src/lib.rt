@@ -1,4 +1,6 @@
 // Where a path leads in the tables of a move: the parent's row, an entry's end, the source's words.
+#![tactic(auto)]
+
 ghost use Rattle.std.specs.Prelude.{◌≡◌, ◌+◌, ◌*◌, ◌≤◌, length};
 ghost use Rattle.tree.specs.declared.Profile.TheVariants.{Exact};
 ghost use Rattle.table_row.specs.Tree.{tree_of};

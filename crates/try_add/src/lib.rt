@@ -1,4 +1,5 @@
 // One case of a move into a root with many files, of tables as long as any.
+#![tactic(auto)]
 
 // A line `add`.
 pub fn try_add(line: &[u8]) {

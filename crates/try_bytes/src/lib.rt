@@ -1,4 +1,6 @@
 // Bytes of a text made from a field: | is a line end, %HH a byte, $ a keyword with a digest.
+#![tactic(auto)]
+
 ghost use Rattle.std.specs.Prelude.{◌≡◌, ◌≤◌, ◌<◌, length};
 
 // A byte at the end of the n bytes of a text; how many there are then.

@@ -1,4 +1,6 @@
 // One case of the check: the table, the words that are changed in it, and the answer.
+#![tactic(auto)]
+
 ghost use Rattle.std.specs.Prelude.{◌≡◌, ◌<◌, length};
 
 use tree::Profile;

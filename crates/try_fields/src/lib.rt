@@ -1,4 +1,6 @@
 // The fields of a line, parted by spaces, and the numbers in them, for the programs that try the calls.
+#![tactic(auto)]
+
 ghost use Rattle.std.specs.Prelude.{◌≤◌, ◌<◌, length};
 
 // The place after the next space of a line.

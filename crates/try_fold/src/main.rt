@@ -4,6 +4,8 @@
 //   check TABLE                             the answer
 //   move TARGET SOURCE PATH DEPTH ROOM      the answer; the result's rows, their sum, and how many words past them are kept
 //   entry LEFT RIGHT KIND LEFTROW RIGHTROW  the count of rows to carry, the rows and their sum
+#![tactic(auto)]
+
 ghost use Rattle.std.specs.Prelude.{◌<◌, length};
 
 use libc::STDIN_FILENO;

@@ -1,4 +1,6 @@
 // One case of a move in a profile.
+#![tactic(auto)]
+
 ghost use Rattle.std.specs.Prelude.{◌<◌};
 
 use tree::Profile;

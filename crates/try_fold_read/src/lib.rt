@@ -1,4 +1,6 @@
 // One text read in a profile, and the table written again.
+#![tactic(auto)]
+
 ghost use Rattle.std.specs.Prelude.{◌<◌, length};
 
 use tree::Profile;

@@ -4,6 +4,8 @@
 // `try_spelled_rows` says.
 //   run ARCHIVE LEFT RIGHT [ROOM ROOM ROOM ROOM]  the rooms are words, of archive, left, right and list; with none given there
 //                                                 is room for more than 4,096 rows
+#![tactic(auto)]
+
 use libc::STDIN_FILENO;
 use tree::Profile;
 

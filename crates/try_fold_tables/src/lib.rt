@@ -1,4 +1,6 @@
 // One case of the check and of the rows to carry, in a profile.
+#![tactic(auto)]
+
 use tree::Profile;
 
 // The answer to the table of a line.

@@ -5,6 +5,8 @@
 //   write TABLE BYTES                       a table as in `try_spelled_rows`, written: the answer, the text in brackets, and how
 //                                           many bytes past it are kept
 // A line end is printed as |.
+#![tactic(auto)]
+
 ghost use Rattle.std.specs.Prelude.{◌<◌, length};
 
 use libc::STDIN_FILENO;

@@ -1,4 +1,6 @@
 // One case of a move: two tables, a path, and what is answered and left.
+#![tactic(auto)]
+
 use tree::Profile;
 
 // The slot of a byte: a name of that byte, or one of three that no path may have within its depth.

@@ -2,6 +2,8 @@
 // number, side and place, the rows of the result, their sum, and how many words past them are kept.
 //   move TARGET SOURCE PATH DEPTH ROOM  a path has a byte a name
 //   add ROWS SOURCE NAME ROOM           a move at a name of a root and its files
+#![tactic(auto)]
+
 use libc::STDIN_FILENO;
 
 // One line, by its first letter.

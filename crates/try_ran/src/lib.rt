@@ -1,4 +1,6 @@
 // The rooms that a line may give a reconciliation, and prints of its answer, its tally and its list.
+#![tactic(auto)]
+
 ghost use Rattle.std.specs.Prelude.{◌≤◌};
 
 use plan_run::Ran;

@@ -3,6 +3,8 @@
 // the words past them are zero; a row that is printed has a line of its own. A line that begins with # is a heading.
 // The cases are those of `try_texts`, and the words in each are the room that is lent: they hold something else before the
 // call.
+#![tactic(auto)]
+
 ghost use Rattle.std.specs.Prelude.{◌<◌, length};
 
 use libc::STDIN_FILENO;

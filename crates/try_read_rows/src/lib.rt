@@ -1,4 +1,6 @@
 // Prints the rows that a text was read into, digests too.
+#![tactic(auto)]
+
 ghost use Rattle.std.specs.Prelude.{◌≡◌, ◌<◌, length};
 
 use libc::STDOUT_FILENO;

@@ -1,4 +1,6 @@
 // A text read into a table in a profile; its answer is printed.
+#![tactic(auto)]
+
 use tree::Profile;
 
 // How many rows were read.

@@ -2,6 +2,8 @@
 // is printed with what came of it: number, side, place and counts, the tally, the list's words, and for each result its rows,
 // their sum, and how many words past them are kept.
 //   CASE ARCHIVE LEFT RIGHT ROOM ROOM ROOM ROOM      the rooms are words, of archive, left, right and list
+#![tactic(auto)]
+
 use libc::STDIN_FILENO;
 use tree::Profile;
 

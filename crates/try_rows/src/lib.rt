@@ -1,4 +1,6 @@
 // Rows put into a table one by one or many at once, and words set, for the programs that try the calls.
+#![tactic(auto)]
+
 ghost use Rattle.std.specs.Prelude.{◌≡◌, ◌≤◌, ◌<◌, length};
 
 // A byte as a word.

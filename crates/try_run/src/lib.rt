@@ -1,4 +1,6 @@
 // One reconciliation in a profile, in rooms that a line may give; its answer, its tally and its list are printed.
+#![tactic(auto)]
+
 use plan_run::Reconciled;
 use plan_tally::Tally;
 use tree::Profile;

@@ -1,4 +1,6 @@
 // One reconciliation in a profile with buffers as long as any, and what is answered and left.
+#![tactic(auto)]
+
 use tree::Profile;
 
 // A run with buffers of its own.

@@ -1,4 +1,6 @@
 // One case of a reconciliation in a profile: the tables of a line, and a run on them.
+#![tactic(auto)]
+
 use tree::Profile;
 
 // A run on the tables of a line.

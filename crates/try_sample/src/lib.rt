@@ -1,5 +1,7 @@
 // Small tables written as text, for the programs that try the calls. A table is a field with five bytes a row, as in
 // `0d_0,1fa5,`: depth, kind (d, f or another), first byte of the name (_ for none), low word of the size, and a comma.
+#![tactic(auto)]
+
 ghost use Rattle.std.specs.Prelude.{◌≡◌, ◌≤◌, ◌<◌, length};
 
 // The digit of a byte: `0` is 0, `@` is 16 and `A` is 17.

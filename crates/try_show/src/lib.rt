@@ -1,4 +1,6 @@
 // Prints numbers and answers, for the programs that try the calls.
+#![tactic(auto)]
+
 ghost use Rattle.std.specs.Prelude.{◌≤◌, ◌<◌};
 
 use libc::STDOUT_FILENO;

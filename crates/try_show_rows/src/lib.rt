@@ -1,4 +1,6 @@
 // Prints rows and results, for the programs that try the calls.
+#![tactic(auto)]
+
 ghost use Rattle.std.specs.Prelude.{◌≡◌, length, ◌<◌};
 
 use libc::STDOUT_FILENO;

@@ -1,4 +1,6 @@
 // Prints rows with names of any length, for the programs that try both profiles.
+#![tactic(auto)]
+
 ghost use Rattle.std.specs.Prelude.{◌≡◌, ◌<◌, length};
 
 use tree::Profile;

@@ -1,4 +1,6 @@
 // Tables of rows with names of any length, made from a field, for the programs that try both profiles.
+#![tactic(auto)]
+
 ghost use Rattle.std.specs.Prelude.{◌≡◌, ◌≤◌, ◌<◌, length};
 
 // Many files.

@@ -1,5 +1,7 @@
 // Rows with names of any length, made from a line, for the programs that try both profiles. A row is its depth, its kind
 // (d or f), the low word of its size, its name and a comma, as in `0d0,1f5Day1,`.
+#![tactic(auto)]
+
 ghost use Rattle.std.specs.Prelude.{◌≡◌, ◌≤◌, ◌<◌, length};
 
 // The number of a byte: `0` is 0 and `@` is 16.

@@ -1,5 +1,7 @@
 // Names of any length, and paths of them, made from a line, for the programs that try both profiles. A path has a slash after
 // each name, as in `P/x/`; a byte of a name is itself, or % and two digits.
+#![tactic(auto)]
+
 ghost use Rattle.std.specs.Prelude.{◌≤◌, ◌<◌, length};
 
 // The value of a digit, up to `f`.

@@ -4,6 +4,8 @@
 //   large ROWS N CHANGES         a root and its files, with n changes
 //   entry LEFT RIGHT KIND LEFTROW RIGHTROW
 // A change is FROM TO VALUE: the words from one place to another become a value.
+#![tactic(auto)]
+
 ghost use Rattle.std.specs.Prelude.{◌<◌};
 
 use libc::STDIN_FILENO;

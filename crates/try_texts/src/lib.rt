@@ -3,6 +3,8 @@
 //   pad WORDS BYTES TEXT    the same, brought to a length by a comment
 //   many WORDS COUNT STEP   folders in a root, in an order that the step gives
 //   file WORDS NAME         a listing in a file
+#![tactic(auto)]
+
 ghost use Rattle.std.specs.Prelude.{◌≡◌, ◌≤◌, ◌<◌, length};
 
 // A text of n bytes, and a comment that brings it to a length.

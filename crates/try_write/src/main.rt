@@ -1,5 +1,7 @@
 // Writes a listing with every byte that a name may hold, sizes at their limits, an empty folder and a path of depth 16,
 // and tells the answers as comments: this one's, for one byte too few, for a bad row, and for a word too few.
+#![tactic(auto)]
+
 ghost use Rattle.std.specs.Prelude.{◌≡◌, ◌<◌, length};
 
 use libc::STDOUT_FILENO;

@@ -1,4 +1,6 @@
 // Tables with every byte that a name may hold, with sizes at their limits, and with a path of depth 16.
+#![tactic(auto)]
+
 ghost use Rattle.std.specs.Prelude.{◌≡◌, ◌<◌, length};
 
 // Byte j of all that a name may hold, 1 to 255 but 47; zero past them.

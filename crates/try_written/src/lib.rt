@@ -1,4 +1,6 @@
 // One case of writing in a profile: a table, the room that is lent, and the answer, the text and what is left of the room.
+#![tactic(auto)]
+
 ghost use Rattle.std.specs.Prelude.{◌≤◌, ◌<◌};
 
 use tree::Profile;
