@@ -2,7 +2,7 @@
 #![tactic(auto)]
 
 // What a byte may be in a text.
-#[derive(Drop)]
+#[derive(Clone, Copy)]
 pub enum Class {
     Plain,
     Escape,
@@ -14,7 +14,7 @@ pub enum Class {
 }
 
 // Where in a logical line: only blanks so far, or a word has begun, each also right after a backslash; in a comment; past its end.
-#[derive(Drop)]
+#[derive(Clone, Copy)]
 pub enum Mode {
     Lead,
     LeadBack,

@@ -9,7 +9,7 @@ ghost use Rattle.listing_keywords.specs.Found.{seen_after, noted_after, Within, 
 ghost use Rattle.listing_keywords.specs.Entries.{said_of};
 
 // No word with a keyword, one, or 2 for more, and the place of the first one's value.
-#[derive(Drop)]
+#[derive(Clone, Copy)]
 pub struct Hit {
     pub count: usize,
     pub start: usize,
@@ -17,7 +17,7 @@ pub struct Hit {
 }
 
 // What a line says for the three keywords that an entry's content is told by.
-#[derive(Drop)]
+#[derive(Clone, Copy)]
 pub struct Hits {
     pub kind: Hit,
     pub size: Hit,
@@ -25,7 +25,7 @@ pub struct Hits {
 }
 
 // A line's type: not said and no default, dir, file, a value that is neither, or type twice.
-#[derive(Drop)]
+#[derive(Clone, Copy)]
 pub enum Said {
     Unsaid,
     Dir,
@@ -35,7 +35,7 @@ pub enum Said {
 }
 
 // A fault's number, or 0 and a content: kind, size, digest; all zero for a folder.
-#[derive(Drop)]
+#[derive(Clone, Copy)]
 pub struct Held {
     pub number: u32,
     pub words: [u32; 11],

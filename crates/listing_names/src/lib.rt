@@ -7,14 +7,14 @@ ghost use Rattle.listing.specs.Names.{octal as octal_of, spelt_as, quad as quad_
 ghost use Rattle.listing_names.specs.Names.{IsSpelt, IsName};
 
 // Up to 32 bytes, zero filled, and whether they are all that was spelt.
-#[derive(Drop)]
+#[derive(Clone, Copy)]
 pub struct Spelt {
     pub good: bool,
     pub bytes: [u8; 32],
 }
 
 // Eight words, and whether they are said.
-#[derive(Drop)]
+#[derive(Clone, Copy)]
 pub struct Told {
     pub good: bool,
     pub words: [u32; 8],

@@ -6,7 +6,7 @@ ghost use Rattle.listing_reader.specs.Does.{Fresh, Sets, Leaves, Roots, entered}
 
 // The default type (0 none, 1 dir, 2 file); the row of each open folder; the depth that an entry listed now has, 0 where no
 // folder is open; the row last put into the folder last opened, or that folder's own; and the rows so far.
-#[derive(Drop)]
+#[derive(Clone, Copy)]
 pub struct Reader {
     pub default: u8,
     pub folders: [usize; 17],
@@ -16,7 +16,7 @@ pub struct Reader {
 }
 
 // The number that a line is due, 0 for none, and the state after it.
-#[derive(Drop)]
+#[derive(Clone, Copy)]
 pub struct Went {
     pub number: u32,
     pub state: Reader,

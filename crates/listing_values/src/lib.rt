@@ -9,7 +9,7 @@ ghost use Rattle.listing_scan.specs.Places.{Counted};
 ghost use Rattle.listing_values.specs.Values.{IsSize, IsHex, IsDigest, all_below, pairs};
 
 // A size's two words, and whether it is one.
-#[derive(Drop)]
+#[derive(Clone, Copy)]
 pub struct Size {
     pub good: bool,
     pub high: u32,

@@ -5,7 +5,7 @@ ghost use Rattle.std.specs.Prelude.{◌≡◌, true, ◌+◌, ◌*◌, ◌%◌, 
 ghost use Rattle.plan_cursor.specs.Cursor.{is_row, from, order_at, not_after, keep, turned, least, behind, is_folder, decision};
 
 // A row of archive, left and right each; 4,294,967,295 where there is none.
-#[derive(Drop)]
+#[derive(Clone, Copy)]
 pub struct Rows {
     pub o: u32,
     pub l: u32,
@@ -13,7 +13,7 @@ pub struct Rows {
 }
 
 // The decision at a relevant path, with the rows that it takes from.
-#[derive(Drop)]
+#[derive(Clone, Copy)]
 pub enum Decision {
     Agreed(Rows),
     LeftGets(Rows),

@@ -2,7 +2,7 @@
 #![tactic(auto)]
 
 // The new trees.
-#[derive(Drop)]
+#[derive(Clone, Copy)]
 pub enum Tree {
     Archive,
     Left,
@@ -10,7 +10,7 @@ pub enum Tree {
 }
 
 // What a new tree takes by a decision: a row's whole subtree, or the row alone.
-#[derive(Drop)]
+#[derive(Clone, Copy)]
 pub enum Source {
     OldPart(u32),
     LeftPart(u32),

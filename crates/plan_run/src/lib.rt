@@ -5,7 +5,7 @@ use plan_tally::Tally;
 
 // What a reconciliation answers: number, side and place; accepted, the rows of the new archive, left and right, and the
 // list's entries.
-#[derive(Drop)]
+#[derive(Clone, Copy)]
 pub struct Reconciled {
     pub number: u32,
     pub side: u32,
@@ -17,7 +17,7 @@ pub struct Reconciled {
 }
 
 // The rows of the new archive, left and right, and the list's entries.
-#[derive(Drop)]
+#[derive(Clone, Copy)]
 pub struct Counts {
     pub archive: usize,
     pub left: usize,
@@ -26,7 +26,7 @@ pub struct Counts {
 }
 
 // A reconciliation's answer, and the tally after it.
-#[derive(Drop)]
+#[derive(Clone, Copy)]
 pub struct Ran {
     pub answer: Reconciled,
     pub tally: Tally,

@@ -5,7 +5,7 @@ ghost use Rattle.std.specs.Prelude.{◌≡◌, ◌*◌, ◌≤◌, length};
 ghost use Rattle.plan_tally.specs.Count.{counted, counted_all};
 
 // The entries of kinds 1, 2 and 3.
-#[derive(Drop)]
+#[derive(Clone, Copy)]
 pub struct Tally {
     pub left: u32,
     pub right: u32,

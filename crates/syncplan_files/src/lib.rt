@@ -33,7 +33,7 @@ pub fn page() -> [u8; 1048576]
 }
 
 // What the program is asked for: a plan, or something that it doesn't know.
-#[derive(Drop)]
+#[derive(Clone, Copy)]
 pub enum Wish {
     Plan(Profile),
     Other,

@@ -7,7 +7,7 @@ ghost use Rattle.table_row.specs.Table.{row_at};
 ghost use Rattle.table_find.specs.Subtree.{end_of, subtree};
 
 // The row of an entry, or that there is none.
-#[derive(Drop)]
+#[derive(Clone, Copy)]
 pub enum Found {
     At(usize),
     Nothing,

@@ -2,7 +2,7 @@
 #![tactic(auto)]
 
 // Words of a table, from one place to another.
-#[derive(Drop)]
+#[derive(Clone, Copy)]
 pub struct Span {
     pub from: usize,
     pub to: usize,

@@ -7,7 +7,7 @@ ghost use Rattle.table_row.specs.Table.{row_at};
 ghost use Rattle.table_row.specs.Buffer.{written};
 
 // How two names stand to each other.
-#[derive(Drop)]
+#[derive(Clone, Copy)]
 pub enum Order {
     Less,
     Same,

@@ -2,7 +2,7 @@
 #![tactic(auto)]
 
 // The answer of a call that has one place.
-#[derive(Drop)]
+#[derive(Clone, Copy)]
 pub enum Answer {
     Accepted {
         place: usize,
@@ -15,7 +15,7 @@ pub enum Answer {
 }
 
 // What a check of a table finds.
-#[derive(Drop)]
+#[derive(Clone, Copy)]
 pub enum Checked {
     Fine,
     BadLength,
@@ -23,14 +23,14 @@ pub enum Checked {
 }
 
 // What is wrong with a table: for numbers 1 and 2 and, where that is nothing, for number 16.
-#[derive(Drop)]
+#[derive(Clone, Copy)]
 pub struct Seen {
     pub rows: Checked,
     pub twins: Checked,
 }
 
 // How a row follows those before it: well, with the key of the sibling before where letter case is ignored, or not at all.
-#[derive(Drop)]
+#[derive(Clone, Copy)]
 pub enum Fit {
     Good,
     Twin,

@@ -12,7 +12,7 @@ ghost use Rattle.table_slot.specs.Insert.{against as against_of, start_of, spot_
 use tree::Profile;
 
 // The row that an entry goes to, or that its name is taken.
-#[derive(Drop)]
+#[derive(Clone, Copy)]
 pub enum Spot {
     Free(usize),
     Taken,
