@@ -1,0 +1,20 @@
+-- `plan_cursor::least_of` meets its contract: the least of three names, and the rows that have it.
+use mathlib.Core.Path.{sym}
+use Rattle.plan_cursor.proofs.least_of.Goals as goal
+
+pub returns-then-same_heads : goal.returns-then-same_heads
+returns-then-same_heads c = sym (c.same_heads.ensures c.if-same_heads.true)
+
+pub returns : goal.returns
+returns c =
+    rw (
+      c.kept-third.ensures,
+      c.turn-3.ensures,
+      c.turn-2.ensures,
+      c.kept-second.ensures,
+      c.turn.ensures,
+      c.kept-first.ensures,
+      c.order_at-z.ensures,
+      c.order_at-y.ensures,
+      c.order_at-x.ensures,
+    )

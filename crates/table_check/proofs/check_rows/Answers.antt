@@ -1,0 +1,20 @@
+-- `table_check::check_rows` meets its contract: row 0 first, then the rows after it.
+use mathlib.Core.Path.{◌≡◌, sym, ◌∙◌}
+use lib.Seq.{length-take-le}
+use Rattle.tree.proofs.Never.{never}
+use Rattle.table_rules.specs.declared.Checked.TheVariants.{Fine, BadRow}
+use Rattle.table_check.proofs.Last.{root-fails}
+use Rattle.table_check.proofs.check_rows.Goals as goal
+
+pub slice_bounds-all_zero-end : goal.slice_bounds-all_zero-end
+slice_bounds-all_zero-end c = sym (length-take-le 20 c.before.before.args.t.now c.before.before.requires)
+
+pub check_entries-requires : goal.check_entries-requires
+check_entries-requires c = (c.before.before.before.before.requires, sym c.all_zero.ensures ∙ c.if-all_zero.true)
+
+pub returns : goal.returns
+returns c =
+    record {
+      lowest-bad = sym (root-fails s.args.profile s.args.t.now s.requires (sym c.all_zero.ensures ∙ c.if-all_zero.false));
+      lowest-twin = λ g. let n : BadRow 0 ≡ Fine = g in never (cc);
+    }

@@ -1,0 +1,43 @@
+-- `place` finds the place: the loop searches on from row i.
+use mathlib.Core.Path.{◌≡◌, sym, ap, ◌∙◌}
+use mathlib.Core.Logic.{⊎_elim}
+use lib.ListN.{drop, get_or}
+use Prim.Native.Nat.{◌+◌, ◌*◌, ◌-◌}
+use borrow.Author.Rules.{rules}
+use Rattle.table_row.specs.Table.{rows}
+use Rattle.table_row.proofs.Table.{depth-at}
+use Rattle.table_find.specs.Entry.{seek, row, up_to, place}
+use Rattle.table_find.proofs.Walk.{seek-end, seek_stop, seek-deep, seek-other, seek-here}
+use Rattle.table_place.proofs.place.Goals as goal
+
+pub returns-then-e-d : goal.returns-then-e-d
+unfolding place
+returns-then-e-d c =
+    let a = c.args in
+    (sym (rw depth-at (ap row (c.loop-i.invariant.1 ∙ seek_stop (up_to a.name) a.t.now (get_or a.t.now (20 * a.f) 0) c.loop-i.i (search rules) c.if-e-d.true))), search rules)
+
+pub returns-then-up_to : goal.returns-then-up_to
+unfolding place
+returns-then-up_to c =
+    let a = c.args in
+    (sym (rw depth-at (ap row (c.loop-i.invariant.1 ∙ seek-here (up_to a.name) a.t.now (get_or a.t.now (20 * a.f) 0) c.loop-i.i (search rules) c.if-e-d-eq1.true (sym c.up_to.ensures ∙ c.if-up_to.true)))), search rules)
+
+pub loop-i-preserved : goal.loop-i-preserved
+loop-i-preserved c =
+    let a = c.args in
+    let w = a.t.now in
+    let i = c.loop-i.i in
+    let p = up_to a.name in
+    let d = get_or w (20 * a.f) 0 in
+    let next : seek p d i (drop i (rows w)) ≡ seek p d (i + 1) (drop (i + 1) (rows w)) =
+    ⊎_elim
+    (λ x. seek-other p w d i (search rules) x.0.taken (sym x.1.ensures ∙ x.2.left))
+    (λ x. seek-deep p w d i (search rules) (search rules) x.left)
+    c.else-e-d-eq1.branch in
+    (search rules, c.loop-i.invariant.1 ∙ next)
+
+pub returns : goal.returns
+unfolding place
+returns c =
+    let a = c.args in
+    (sym (rw depth-at (ap row (c.loop-i.invariant.1 ∙ seek-end (up_to a.name) a.t.now (get_or a.t.now (20 * a.f) 0) c.loop-i.i (search rules)))), search rules)

@@ -1,0 +1,11 @@
+-- `try_spelling::path_of` is safe: a path has sixteen slots.
+use mathlib.Core.Path.{◌≡◌}
+use lib.ListN.{length}
+use Prim.Native.Nat.{◌-◌, ◌≤◌}
+use Rattle.try_spelling.proofs.path_of.Given as goal
+
+abbrev pub invariant-loop-at : goal.invariant-loop-at
+invariant-loop-at l = (l.i ≤ 16) × (length l.names ≡ 16)
+
+abbrev pub decreases-loop-at : goal.decreases-loop-at
+decreases-loop-at l = length l.line - l.at
