@@ -1,6 +1,5 @@
 -- `listing_spell::put_all` meets its contract: the bytes from byte k on are left.
 use lib.ListN.{length}
-use Prim.Native.Nat.{◌-◌}
 use borrow.Author.Rules.{rules}
 use Rattle.listing_spell.proofs.Poured.{left-all, left-byte, left_end}
 use Rattle.listing_spell.proofs.put_all.Goals as goal

@@ -1,7 +1,6 @@
 -- `listing_spell::put_name` meets its contract: what the bytes from byte k on spell is left.
 use mathlib.Core.Path.{sym, ◌∙◌}
 use native.Mathlib.Omega.{arith}
-use Prim.Native.Nat.{◌-◌}
 use borrow.Author.Rules.{rules}
 use Rattle.tree.specs.Rules.{bytes}
 use Rattle.tree.proofs.Rules.{length-bytes}

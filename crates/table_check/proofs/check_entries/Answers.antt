@@ -40,7 +40,7 @@ loop-i-init c =
     (search rules, search rules, lasts-first a.profile a.t.now c.requires.0 c.requires.1, r.0, r.1)
 
 pub row_fit-requires : goal.row_fit-requires
-row_fit-requires c = ((search rules, search rules), c.loop-i.invariant.2)
+row_fit-requires c = record { i_in_bounds = (search rules, search rules); lasts = c.loop-i.invariant.2 }
 
 pub returns-in-Bad : goal.returns-in-Bad
 returns-in-Bad c =
