@@ -15,17 +15,17 @@ use Rattle.table_find.specs.Entry.{seek, found, child}
 use Rattle.table_find.proofs.Walk.{seek-end, seek_stop, seek-deep, seek-other, seek-here}
 use Rattle.table_entry.proofs.find_child.Invariants.{name_of}
 use Rattle.table_entry.proofs.find_child.Goals as goal
-use Rattle.table_entry.proofs.find_child.Goals.{else-e-d-eq1, then-e-d-eq1}
+use Rattle.table_entry.proofs.find_child.Goals.{else-e-d-eq1, then-e-d-eq1+else-k-eq8+then-t-i}
 
 pub returns-then-k-eq8 : goal.returns-then-k-eq8
 unfolding child
 returns-then-k-eq8 c =
     let a = c.args in
-    let n8 : length a.t3 ≡ 8 = search rules in
+    let n8 : length a.name ≡ 8 = search rules in
     let e8 : length (name_of a.t.now c.rows.i) ≡ 8 = name-length a.t.now c.rows.i (search rules) in
-    let s : same_words a.t3 (name_of a.t.now c.rows.i) ≡ true = c.words.invariant.1 ∙ same_end a.t3 (name_of a.t.now c.rows.i) c.words.k (omega arith) (omega arith) in
+    let s : same_words a.name (name_of a.t.now c.rows.i) ≡ true = c.words.invariant.1 ∙ same_end a.name (name_of a.t.now c.rows.i) c.words.k (omega arith) (omega arith) in
     record {
-      answer = sym (rw depth-at (ap found (c.rows.invariant.1 ∙ seek-here (same_words a.t3) a.t.now (get_or a.t.now (20 * a.f) 0) c.rows.i (search rules) (search rules) s)));
+      answer = sym (rw depth-at (ap found (c.rows.invariant.1 ∙ seek-here (same_words a.name) a.t.now (get_or a.t.now (20 * a.f) 0) c.rows.i (search rules) (search rules) s)));
       inside = search rules;
     }
 
@@ -34,23 +34,26 @@ words-preserved c =
     let a = c.args in
     let k = c.words.k in
     let w = a.t.now in
-    let n8 : length a.t3 ≡ 8 = search rules in
+    let n8 : length a.name ≡ 8 = search rules in
     let k8 : k < 8 = search rules in
     let e8 : length (name_of w c.rows.i) ≡ 8 = name-length w c.rows.i (search rules) in
-    (search rules, c.words.invariant.1 ∙ same_next a.t3 (name_of w c.rows.i) k (omega arith) (omega arith) (sym (name-word w c.rows.i k k8 ∙ c.if-t-i.false)))
+    (search rules, c.words.invariant.1 ∙ same_next a.name (name_of w c.rows.i) k (omega arith) (omega arith) (sym (name-word w c.rows.i k k8 ∙ c.if-t-i.false)))
 
 pub rows-preserved : goal.rows-preserved
 rows-preserved c =
     let a = c.args in
     let w = a.t.now in
     let i = c.rows.i in
-    let p = same_words a.t3 in
+    let p = same_words a.name in
     let d = get_or w (20 * a.f) 0 in
     let next : seek p d i (drop i (rows w)) ≡ seek p d (i + 1) (drop (i + 1) (rows w)) =
-    elim c.if-e-d-eq1.branch [ then-e-d-eq1 w ↦ let k = w.?1?k in
-    let k8 : k < 8 = omega (arith, w.?1?inv?0, w.if-e-d-eq1.false) in
-    seek-other p w d i (search rules) w.if-e-d-eq1.true
-    (same_words-false a.t3 (name_of w i) (λ e. w.if-e-d-eq1.true (sym (name-word w i k k8) ∙ sym (ap (λ (v : List ℕ). get_or v k 0) e)))) | else-e-d-eq1 w ↦ seek-deep p w d i (search rules) (search rules) w.if-e-d-eq1.false ] in
+    elim c.if-e-d-eq1.branch [
+      then-e-d-eq1+else-k-eq8+then-t-i x ↦
+        let k = x.words.k in
+        let k8 : k < 8 = omega (arith, x.words.invariant.0, x.if-k-eq8.false) in
+        seek-other p w d i (search rules) x.if-e-d-eq1.true
+        (same_words-false a.name (name_of w i) (λ e. x.if-t-i.true (sym (name-word w i k k8) ∙ sym (ap (λ (v : List ℕ). get_or v k 0) e))))
+      | else-e-d-eq1 x ↦ seek-deep p w d i (search rules) (search rules) x.if-e-d-eq1.false ] in
     (search rules, c.rows.invariant.1 ∙ next)
 
 pub returns-after-rows : goal.returns-after-rows
@@ -58,7 +61,7 @@ unfolding child
 returns-after-rows c =
     let a = c.args in
     record {
-      answer = sym (rw depth-at (ap found (c.rows.invariant.1 ∙ seek-end (same_words a.t3) a.t.now (get_or a.t.now (20 * a.f) 0) c.rows.i (search rules))));
+      answer = sym (rw depth-at (ap found (c.rows.invariant.1 ∙ seek-end (same_words a.name) a.t.now (get_or a.t.now (20 * a.f) 0) c.rows.i (search rules))));
       inside = tt;
     }
 
@@ -67,6 +70,6 @@ unfolding child
 returns-then-e-d c =
     let a = c.args in
     record {
-      answer = sym (rw depth-at (ap found (c.rows.invariant.1 ∙ seek_stop (same_words a.t3) a.t.now (get_or a.t.now (20 * a.f) 0) c.rows.i (search rules) c.if-e-d.true)));
+      answer = sym (rw depth-at (ap found (c.rows.invariant.1 ∙ seek_stop (same_words a.name) a.t.now (get_or a.t.now (20 * a.f) 0) c.rows.i (search rules) c.if-e-d.true)));
       inside = tt;
     }

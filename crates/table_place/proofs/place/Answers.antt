@@ -9,6 +9,7 @@ use Rattle.table_row.proofs.Table.{depth-at}
 use Rattle.table_find.specs.Entry.{seek, row, up_to, place}
 use Rattle.table_find.proofs.Walk.{seek-end, seek_stop, seek-deep, seek-other, seek-here}
 use Rattle.table_place.proofs.place.Goals as goal
+use Rattle.table_place.proofs.place.Goals.{else-e-d-eq1-via-then-e-d-eq1+else-up_to, else-e-d-eq1-via-else-e-d-eq1}
 
 pub returns-then-e-d : goal.returns-then-e-d
 unfolding place
@@ -30,10 +31,9 @@ loop-i-preserved c =
     let p = up_to a.name in
     let d = get_or w (20 * a.f) 0 in
     let next : seek p d i (drop i (rows w)) ≡ seek p d (i + 1) (drop (i + 1) (rows w)) =
-    ⊎_elim
-    (λ x. seek-other p w d i (search rules) x.0.taken (sym x.1.ensures ∙ x.2.left))
-    (λ x. seek-deep p w d i (search rules) (search rules) x.left)
-    c.else-e-d-eq1.branch in
+    elim c.else-e-d-eq1.branch [
+      else-e-d-eq1-via-then-e-d-eq1+else-up_to x ↦ seek-other p w d i (search rules) x.if-e-d-eq1.true (sym x.up_to.ensures ∙ x.if-up_to.false)
+      | else-e-d-eq1-via-else-e-d-eq1 x ↦ seek-deep p w d i (search rules) (search rules) x.if-e-d-eq1.false ] in
     (search rules, c.loop-i.invariant.1 ∙ next)
 
 pub returns : goal.returns

@@ -30,14 +30,14 @@ tested n t i x y e h = sym (by_answer (cmp n (name (row_at t i))) ∙ ap (λ (m 
 pub returns-in-Less : goal.returns-in-Less
 returns-in-Less c =
     let a = c.args in
-    tested a.t3 a.t.now a.i _ _ c.compare_words.ensures c.in-Less.is
+    tested a.name a.t.now a.i _ _ c.compare_words.ensures c.in-Less.is
 
 pub returns-in-Same : goal.returns-in-Same
 returns-in-Same c =
     let a = c.args in
-    tested a.t3 a.t.now a.i _ _ c.compare_words.ensures c.in-Same.is
+    tested a.name a.t.now a.i _ _ c.compare_words.ensures c.in-Same.is
 
 pub returns-in-Greater : goal.returns-in-Greater
 returns-in-Greater c =
     let a = c.args in
-    tested a.t3 a.t.now a.i _ _ c.compare_words.ensures c.in-Greater.is
+    tested a.name a.t.now a.i _ _ c.compare_words.ensures c.in-Greater.is
