@@ -5,9 +5,9 @@ use native.Mathlib.Omega.{arith}
 use native.Mathlib.Nat.{zero-add}
 use lib.ListN.{length, take, drop, get_or}
 use lib.Seq.{take_at, drop_at}
-use Prim.Native.Nat.{ℕ, suc, ◌+◌, ◌%◌, ◌≤◌}
+use Prim.Native.Nat.{ℕ, suc, ◌%◌, ◌≤◌}
 use Rattle.tree.specs.Name.{Name}
-use Rattle.tree.specs.Forest.{TreePath, Forest, Node, Node.absent, Node.file, Node.folder, at, Present}
+use Rattle.tree.specs.Forest.{TreePath, Forest, Node, Node.absent, Node.file, Node.folder, Present}
 use Rattle.tree.specs.declared.Profile.{Profile}
 use Rattle.tree.specs.Key.{fold, fold_node, FormedIn}
 use Rattle.tree.proofs.Folds.{reach, own_name, reach-fold}
@@ -26,7 +26,6 @@ use Rattle.table_stands.proofs.Rows.{head}
 use Rattle.table_stands.proofs.Subtree.{held-words}
 use Rattle.table_stands.proofs.Forest.{ruled-within}
 use Rattle.table_stands.proofs.Keyed.{stands-reach}
-use Rattle.plan_cursor.specs.declared.Decision.{Decision}
 use Rattle.plan.specs.Items.{kind, items, or_none, row_of, plan_words}
 use Rattle.plan.specs.Settle.{Three}
 use Rattle.plan.proofs.Keyed.{IsTableIn}

@@ -2,7 +2,6 @@
 use mathlib.Core.Path.{refl}
 use native.Mathlib.Omega.{arith}
 use native.Mathlib.Nat.{sub-zero, zero-add}
-use Prim.Native.Nat.{◌-◌}
 use Rattle.plan_tally.proofs.Laws.{rest_end, rest-hit, rest-miss}
 use Rattle.plan_tally.proofs.count_kind.Goals as goal
 use Rattle.plan_tally.proofs.count_kind.Goals.{else-list-i, then-list-i}

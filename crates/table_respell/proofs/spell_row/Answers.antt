@@ -35,7 +35,7 @@ pub returns-in-At : goal.returns-in-At
 returns-in-At c =
     let a = c.args in
     rw c.in-At.is
-    (c.put_named.ensures ∙ ap (λ (n : List ℕ). written a.result.now a.at (called n a.src.now)) (name-part a.table.now c.in-At.i))
+    (c.put_named.ensures ∙ ap (λ (n : List ℕ). written a.res.now a.at (called n a.src.now)) (name-part a.table.now c.in-At.i))
 
 pub returns-in-Nothing : goal.returns-in-Nothing
 returns-in-Nothing c = rw c.in-Nothing.is c.copy_words.ensures.1

@@ -1,0 +1,29 @@
+-- `table_spans::parent_row` meets its contract: the row that the parent's path leads to, where its kind is a folder's.
+use mathlib.Core.Path.{sym, ◌∙◌}
+use native.Mathlib.Omega.{arith}
+use borrow.Author.Rules.{rules}
+use Rattle.tree.specs.declared.Profile.TheVariants.{Exact}
+use Rattle.table_rules.proofs.Passed.{passed-some}
+use Rattle.table_follow.proofs.Follow.{inside-at}
+use Rattle.table_moved.proofs.Lookup.{slice-words, folder-found, file-found, none_found}
+use Rattle.table_spans.proofs.parent_row.Goals as goal
+
+pub lookup-requires : goal.lookup-requires
+lookup-requires c = (passed-some Exact c.args.t.now c.requires.0, search rules)
+
+pub word-requires : goal.word-requires
+word-requires c =
+    let h = inside-at _ _ _ c.in-At.is c.lookup.ensures.inside in
+    (omega arith, search rules)
+
+pub returns-then-word-eq0 : goal.returns-then-word-eq0
+returns-then-word-eq0 c =
+    folder-found c.args.t.now c.requires.0 (slice-words _ c.shared_slice_known-1.given) _ _ c.lookup.ensures _ c.in-At.is (sym c.word.ensures ∙ c.if-word-eq0.true)
+
+pub returns-else-word-eq0 : goal.returns-else-word-eq0
+returns-else-word-eq0 c =
+    file-found c.args.t.now c.requires.0 (slice-words _ c.shared_slice_known-1.given) _ _ c.lookup.ensures _ c.in-At.is (λ z. c.if-word-eq0.false (c.word.ensures ∙ z))
+
+pub returns-in-Nothing : goal.returns-in-Nothing
+returns-in-Nothing c =
+    none_found c.args.t.now c.requires.0 (slice-words _ c.shared_slice_known-1.given) _ _ c.lookup.ensures c.in-Nothing.is

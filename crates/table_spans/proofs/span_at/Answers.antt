@@ -1,0 +1,14 @@
+-- `table_spans::span_at` meets its contract: the subtree at the row that the path leads to.
+use mathlib.Core.Path.{sym, ◌∙◌}
+use Rattle.table_follow.proofs.Follow.{inside-at}
+use Rattle.table_moved.proofs.Source.{spans-at, spans-none}
+use Rattle.table_spans.proofs.span_at.Goals as goal
+
+pub subtree_end-e-requires : goal.subtree_end-e-requires
+subtree_end-e-requires c = inside-at _ _ _ c.in-At.is c.lookup.ensures.inside
+
+pub returns-in-At : goal.returns-in-At
+returns-in-At c = spans-at _ _ _ _ (sym c.lookup.ensures.answer ∙ c.in-At.is) c.subtree_end-e.ensures
+
+pub returns-in-Nothing : goal.returns-in-Nothing
+returns-in-Nothing c = spans-none _ _ (sym c.lookup.ensures.answer ∙ c.in-Nothing.is)
