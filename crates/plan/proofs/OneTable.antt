@@ -10,7 +10,6 @@ use Prim.Native.Nat.{ℕ, suc, ◌+◌, ◌/◌, ◌≤◌, Ordering}
 use borrow.Author.Tests.{lt-ltb, le-ltb}
 use Rattle.tree.specs.Name.{Name, cmp}
 use Rattle.tree.specs.Forest.{Forest, Forest.end, Forest.leaf, Forest.dir, Node, Node.absent, Node.file, Node.folder, kids, add, size, Present}
-use Rattle.table_row.specs.Table.{kind}
 use Rattle.table_row.specs.Tree.{file_row, folder_row, rows_of, node_rows}
 use Rattle.table_stands.specs.Stands.{Stands, StandsOr, Ruled, RuledNode}
 use Rattle.plan_cursor.specs.Cursor.{none, is_row, seek, from, behind, is_folder}

@@ -2,22 +2,21 @@
 // ignored.
 #![tactic(auto)]
 
-use libc::{STDERR_FILENO, STDOUT_FILENO};
+use std::io;
 use syncplan_files::Wish;
 
 // The plan of the three listings, or how to ask for it.
-fn main() {
-    let Wish::Plan(profile) = syncplan_files::asked() else {
-        io::write_all(STDERR_FILENO, b"usage: syncplan [--ignore-case]\n");
-        return;
+fn main(rt: HostRuntime) -> io::Result<()> {
+    let Wish::Plan(profile) = syncplan_files::asked(&rt) else {
+        return eprintln!(rt; "usage: syncplan [--ignore-case]");
     };
     let mut archive = [0u8; 16385];
-    let a = syncplan_files::load(b"archive.mtree", &mut archive);
+    let a = syncplan_files::load(&rt, b"archive.mtree", &mut archive);
     let mut left = [0u8; 16385];
-    let b = syncplan_files::load(b"left.mtree", &mut left);
+    let b = syncplan_files::load(&rt, b"left.mtree", &mut left);
     let mut right = [0u8; 16385];
-    let c = syncplan_files::load(b"right.mtree", &mut right);
+    let c = syncplan_files::load(&rt, b"right.mtree", &mut right);
     let mut out = syncplan_files::page();
     let n = printout::print_plan(profile, &mut out, &archive[..a], &left[..b], &right[..c]);
-    io::write_all(STDOUT_FILENO, &out[..n]);
+    rt.write_all(&out[..n])
 }

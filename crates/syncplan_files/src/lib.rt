@@ -1,28 +1,35 @@
 // A file read whole, and what the arguments ask for.
 #![tactic(auto)]
 
-ghost use Rattle.std.specs.Prelude.{◌≡◌, length};
-ghost use Rattle.io.specs.Counts.{IsPrefixLen};
+ghost use Rattle.std.specs.Prelude.{◌≡◌, ◌≤◌, length, take};
+ghost use Rattle.std.specs.Io.{ReadsAtMost};
 
+use std::env::FillError;
+use std::rt::{Env, Files};
+use std::{fs, io, str};
 use tree::Profile;
+
+// A file's bytes, which fill the lent ones where it is as long; so they do where its path is not text.
+fn read(rt: &impl Files, path: &[u8], into: &mut [u8]) -> io::Result<usize>
+    ensures { ReadsAtMost result into.new }
+{
+    let Ok(name) = str::from_utf8(path) else {
+        return Ok(into.len());
+    };
+    let mut file = fs::open(rt, name)?;
+    read_whole::fill(&mut file, into)
+}
 
 // A file's bytes, which fill the lent ones where it is as long; so they do where it is not there or can't be read, as a
 // folder.
-pub fn load(path: &[u8], into: &mut [u8]) -> usize
-    ensures { IsPrefixLen result into.new }
+pub fn load(rt: &impl Files, path: &[u8], into: &mut [u8]) -> usize
+    ensures bound { result ≤ length into.new }
+    ensures prefix { result ≡ length (take result into.new) }
 {
-    let fd = os::open_read(path);
-    if fd < 0 {
-        return into.len();
+    match read(rt, path, into) {
+        Ok(n) => n,
+        Err(_) => into.len(),
     }
-    let mut first = [0u8; 1];
-    if libc::pread(fd, &mut first, 0) < 0 {
-        libc::close(fd);
-        return into.len();
-    }
-    let n = io::read_full(fd, into);
-    libc::close(fd);
-    n
 }
 
 // Room for the plan of any three files.
@@ -39,15 +46,20 @@ pub enum Wish {
     Other,
 }
 
+// Whether argument k is there.
+fn is_given(rt: &impl Env, k: usize) -> bool {
+    let mut word = [0u8; 16];
+    !matches!(rt.arg(k, &mut word), Err(FillError::NotPresent))
+}
+
 // The argument, where there is one.
-pub fn asked() -> Wish {
-    let n = os::arg_count();
-    if n < 2 {
+pub fn asked(rt: &impl Env) -> Wish {
+    if !is_given(rt, 1) {
         return Wish::Plan(Profile::Exact);
     }
     let mut word = [0u8; 16];
-    let e = os::arg(1, &mut word);
-    if n == 2 && listing_words::same_bytes(&word[..e], b"--ignore-case") {
+    let e = rt.arg(1, &mut word).unwrap_or(0);
+    if !is_given(rt, 2) && listing_words::same_bytes(&word[..e], b"--ignore-case") {
         return Wish::Plan(Profile::Folded);
     }
     Wish::Other

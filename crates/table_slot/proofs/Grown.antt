@@ -27,7 +27,7 @@ use Rattle.table_stands.proofs.Rows.{cut, whole-front}
 use Rattle.table_stands.proofs.Path.{leads, ruled-at}
 use Rattle.table_stands.proofs.Put.{place-entry, at_entry}
 use Rattle.table_stands.proofs.Around.{before-add}
-use Rattle.table_slot.specs.Insert.{inserted, spot_of, Last, Last.entry}
+use Rattle.table_slot.specs.Insert.{inserted, spot_of, Last}
 use Rattle.table_slot.proofs.Spots.{spot_at, spot-found}
 use Rattle.table_slot.proofs.Parted.{parted}
 

@@ -1,7 +1,7 @@
 -- The rows of siblings in three pieces about a name: those before it, its own entry's, those after it.
 use mathlib.Core.Path.{◌≡◌, refl, sym, ap, ◌∙◌}
 use mathlib.Core.List.{◌++◌, append_assoc}
-use Prim.Native.Nat.{ℕ, ◌+◌, Ordering}
+use Prim.Native.Nat.{ℕ, Ordering}
 use Rattle.tree.specs.Name.{Name, cmp, by_order}
 use Rattle.tree.specs.Forest.{Forest, Forest.end, Forest.leaf, Forest.dir, Node, Node.absent, Node.file, Node.folder, Sorted, add, find, Present}
 use Rattle.tree.specs.Put.{update}

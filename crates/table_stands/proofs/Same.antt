@@ -10,7 +10,7 @@ use Rattle.tree.specs.Name.{Name}
 use Rattle.tree.specs.Forest.{Content, Forest, Forest.end, Forest.leaf, Forest.dir, Node, Node.absent, Node.file, Node.folder}
 use Rattle.tree.specs.Rules.{ContentRule}
 use Rattle.tree.specs.Same.{same_words, same_node}
-use Rattle.table_row.specs.Table.{Row, flat, rows, kind, name, content}
+use Rattle.table_row.specs.Table.{Row, flat, rows, name, content}
 use Rattle.table_row.specs.Tree.{file_row, folder_row, rows_of, node_rows}
 use Rattle.table_find.specs.Subtree.{subtree}
 use Rattle.tree.proofs.Same.{same_words-refl, same_words-eq, same_node-eq, same_node-true}

@@ -1,8 +1,10 @@
 // One case of a move into a root with many files, of tables as long as any.
 #![tactic(auto)]
 
+use std::io;
+
 // A line `add`.
-pub fn try_add(line: &[u8]) {
+pub fn try_add(rt: &impl Print, line: &[u8]) -> io::Result<()> {
     let mut target = [0u32; 81960];
     let n = try_rows::fill_many(&mut target, try_fields::small(line, 1));
     let mut source = [0u32; 40];
@@ -12,6 +14,7 @@ pub fn try_add(line: &[u8]) {
     let mut result = [try_show::CANARY; 81980];
     let room = try_fields::count(line, 4);
     try_move::tell_move(
+        rt,
         line,
         &target[..n],
         &source[..m],
@@ -19,5 +22,5 @@ pub fn try_add(line: &[u8]) {
         1,
         &mut result,
         room,
-    );
+    )
 }

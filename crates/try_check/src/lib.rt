@@ -3,16 +3,17 @@
 
 ghost use Rattle.std.specs.Prelude.{◌≡◌, ◌<◌, length};
 
+use std::io;
 use tree::Profile;
 
 // The answer to the first n words.
-fn tell_check(line: &[u8], words: &[u32], n: usize) {
+fn tell_check(rt: &impl Print, line: &[u8], words: &[u32], n: usize) -> io::Result<()> {
     if words.len() < n {
-        return;
+        return Ok(());
     }
-    try_show::print_case(line);
-    try_show::print_answer(table_answers::check_table(Profile::Exact, &words[..n]));
-    try_show::print(b"\n");
+    try_show::print_case(rt, line)?;
+    try_show::print_answer(rt, table_answers::check_table(Profile::Exact, &words[..n]))?;
+    try_show::print(rt, b"\n")
 }
 
 // The changes of a table that stand from field k of a line on.
@@ -32,17 +33,17 @@ fn change(line: &[u8], k: usize, table: &mut [u32])
 }
 
 // A line `check`.
-pub fn try_check(line: &[u8]) {
+pub fn try_check(rt: &impl Print, line: &[u8]) -> io::Result<()> {
     let mut table = [0u32; 400];
     try_sample::fill(line, 1, &mut table);
     change(line, 3, &mut table);
-    tell_check(line, &table, try_fields::count(line, 2));
+    tell_check(rt, line, &table, try_fields::count(line, 2))
 }
 
 // A line `large`.
-pub fn try_large(line: &[u8]) {
+pub fn try_large(rt: &impl Print, line: &[u8]) -> io::Result<()> {
     let mut table = [0u32; 81960];
     let n = try_rows::fill_many(&mut table, try_fields::small(line, 1));
     change(line, 2, &mut table);
-    tell_check(line, &table, n);
+    tell_check(rt, line, &table, n)
 }

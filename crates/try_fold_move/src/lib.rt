@@ -3,44 +3,49 @@
 
 ghost use Rattle.std.specs.Prelude.{◌<◌};
 
+use std::io;
 use tree::Profile;
 
 // A move with the first words of a result.
-fn move_in(profile: Profile, line: &[u8], target: &[u32], source: &[u32], res: &mut [u32]) {
+fn move_in(
+    rt: &impl Print,
+    profile: Profile,
+    line: &[u8],
+    target: &[u32],
+    source: &[u32],
+    res: &mut [u32],
+) -> io::Result<()> {
     let names = try_spelling::path_of(line, 3);
     let depth = try_fields::small(line, 4);
     let room = try_fields::count(line, 5);
     if res.len() < room {
-        return;
+        return Ok(());
     }
-    let rows = try_show::print_answer(table_move::make_move(
-        profile,
-        target,
-        source,
-        names,
-        depth,
-        &mut res[..room],
-    ));
-    try_show_spelled::print_result(res, rows);
+    let rows = try_show::print_answer(
+        rt,
+        table_move::make_move(profile, target, source, names, depth, &mut res[..room]),
+    )?;
+    try_show_spelled::print_result(rt, res, rows)
 }
 
 // A move on the tables of a line.
 fn tell_move(
+    rt: &impl Print,
     profile: Profile,
     line: &[u8],
     target: &mut [u32],
     source: &mut [u32],
     res: &mut [u32],
-) {
+) -> io::Result<()> {
     let n = try_spelled::fill(line, 1, target);
     let m = try_spelled::fill(line, 2, source);
-    move_in(profile, line, &target[..n], &source[..m], res);
+    move_in(rt, profile, line, &target[..n], &source[..m], res)
 }
 
 // A line `move`.
-pub fn try_move(profile: Profile, line: &[u8]) {
+pub fn try_move(rt: &impl Print, profile: Profile, line: &[u8]) -> io::Result<()> {
     let mut target = [0u32; 81980];
     let mut source = [0u32; 81980];
     let mut result = [try_show::CANARY; 81980];
-    tell_move(profile, line, &mut target, &mut source, &mut result);
+    tell_move(rt, profile, line, &mut target, &mut source, &mut result)
 }

@@ -1,29 +1,31 @@
 // One case of the check and of the rows to carry, in a profile.
 #![tactic(auto)]
 
+use std::io;
 use tree::Profile;
 
 // The answer to the table of a line.
-fn tell_check(profile: Profile, line: &[u8], table: &mut [u32]) {
+fn tell_check(rt: &impl Print, profile: Profile, line: &[u8], table: &mut [u32]) -> io::Result<()> {
     let n = try_spelled::fill(line, 1, table);
-    try_show::print_answer(table_answers::check_table(profile, &table[..n]));
+    try_show::print_answer(rt, table_answers::check_table(profile, &table[..n]))?;
+    Ok(())
 }
 
 // A line `check`.
-pub fn try_check(profile: Profile, line: &[u8]) {
+pub fn try_check(rt: &impl Print, profile: Profile, line: &[u8]) -> io::Result<()> {
     let mut table = [0u32; 81980];
-    tell_check(profile, line, &mut table);
+    tell_check(rt, profile, line, &mut table)
 }
 
 // The rows to carry.
-fn tell_entry(rows: &[u32]) {
-    try_show::print_number(rows.len() / 20);
-    try_show_spelled::print_rows(rows);
-    try_show::print_number(try_show::sum(rows) as usize);
+fn tell_entry(rt: &impl Print, rows: &[u32]) -> io::Result<()> {
+    try_show::print_number(rt, rows.len() / 20)?;
+    try_show_spelled::print_rows(rt, rows)?;
+    try_show::print_number(rt, try_show::sum(rows) as usize)
 }
 
 // A line `entry`.
-pub fn try_entry(profile: Profile, line: &[u8]) {
+pub fn try_entry(rt: &impl Print, profile: Profile, line: &[u8]) -> io::Result<()> {
     let mut left = [0u32; 400];
     let n = try_spelled::fill(line, 1, &mut left);
     let mut right = [0u32; 400];
@@ -31,5 +33,8 @@ pub fn try_entry(profile: Profile, line: &[u8]) {
     let kind = try_fields::small(line, 3);
     let left_row = try_fields::small(line, 4);
     let right_row = try_fields::small(line, 5);
-    tell_entry(table_carry::carried(profile, &left[..n], &right[..m], kind, left_row, right_row));
+    tell_entry(
+        rt,
+        table_carry::carried(profile, &left[..n], &right[..m], kind, left_row, right_row),
+    )
 }

@@ -9,51 +9,53 @@
 
 ghost use Rattle.std.specs.Prelude.{◌<◌, length};
 
-use libc::STDIN_FILENO;
+use std::io;
+use std::rt::Files;
 use tree::Profile;
 
 // A line in a profile, by its first letter.
-fn try_in(profile: Profile, line: &[u8])
+fn try_in(rt: &(impl Files + Print), profile: Profile, line: &[u8]) -> io::Result<()>
     requires { 0 < length line.now }
 {
-    try_show_spelled::print_profile(profile);
+    try_show_spelled::print_profile(rt, profile)?;
     match line[0] {
-        b'w' => try_written::try_write(profile, line),
-        _ => try_fold_read::try_read(profile, line),
+        b'w' => try_written::try_write(rt, profile, line)?,
+        _ => try_fold_read::try_read(rt, profile, line)?,
     }
-    try_show::print(b"\n");
+    try_show::print(rt, b"\n")
 }
 
 // One line, in both profiles.
-fn try_line(line: &[u8]) {
-    try_show::print(line);
-    try_show::print(b"\n");
+fn try_line(rt: &(impl Files + Print), line: &[u8]) -> io::Result<()> {
+    try_show::print(rt, line)?;
+    try_show::print(rt, b"\n")?;
     if line.len() == 0 {
-        return;
+        return Ok(());
     }
     if line[0] == b'#' {
-        return;
+        return Ok(());
     }
-    try_in(Profile::Exact, line);
-    try_in(Profile::Folded, line);
+    try_in(rt, Profile::Exact, line)?;
+    try_in(rt, Profile::Folded, line)
 }
 
 // Each line of a text.
-fn try_lines(text: &[u8]) {
+fn try_lines(rt: &(impl Files + Print), text: &[u8]) -> io::Result<()> {
     let mut from = 0;
     while from < text.len() {
         let end = try_fields::line_end(text, from);
-        try_line(&text[from..end]);
+        try_line(rt, &text[from..end])?;
         if end == text.len() {
-            return;
+            return Ok(());
         }
         from = end + 1;
     }
+    Ok(())
 }
 
 // Every line of the input.
-fn main() {
-    let mut text = io::large_buffer();
-    let n = io::read_full(STDIN_FILENO, &mut text);
-    try_lines(&text[..n]);
+fn main(rt: HostRuntime) -> io::Result<()> {
+    let mut text = [0u8; 65536];
+    let n = read_whole::fill(&mut rt.stdin(), &mut text)?;
+    try_lines(&rt, &text[..n])
 }

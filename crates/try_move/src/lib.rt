@@ -1,6 +1,7 @@
 // One case of a move: two tables, a path, and what is answered and left.
 #![tactic(auto)]
 
+use std::io;
 use tree::Profile;
 
 // The slot of a byte: a name of that byte, or one of three that no path may have within its depth.
@@ -41,6 +42,7 @@ fn path_of(line: &[u8], k: usize) -> [[u32; 8]; 16] {
 
 // A move with the first words of a room.
 pub fn tell_move(
+    rt: &impl Print,
     line: &[u8],
     target: &[u32],
     source: &[u32],
@@ -48,25 +50,28 @@ pub fn tell_move(
     depth: u32,
     res: &mut [u32],
     room: usize,
-) {
+) -> io::Result<()> {
     if res.len() < room {
-        return;
+        return Ok(());
     }
-    try_show::print_case(line);
-    let rows = try_show::print_answer(table_move::make_move(
-        Profile::Exact,
-        target,
-        source,
-        names,
-        depth,
-        &mut res[..room],
-    ));
-    try_show_rows::print_result(res, rows);
-    try_show::print(b"\n");
+    try_show::print_case(rt, line)?;
+    let rows = try_show::print_answer(
+        rt,
+        table_move::make_move(
+            Profile::Exact,
+            target,
+            source,
+            names,
+            depth,
+            &mut res[..room],
+        ),
+    )?;
+    try_show_rows::print_result(rt, res, rows)?;
+    try_show::print(rt, b"\n")
 }
 
 // A line `move`.
-pub fn try_move(line: &[u8]) {
+pub fn try_move(rt: &impl Print, line: &[u8]) -> io::Result<()> {
     let mut target = [0u32; 400];
     let n = try_sample::fill(line, 1, &mut target);
     let mut source = [0u32; 400];
@@ -76,6 +81,7 @@ pub fn try_move(line: &[u8]) {
     let mut result = [try_show::CANARY; 500];
     let room = try_fields::count(line, 5);
     tell_move(
+        rt,
         line,
         &target[..n],
         &source[..m],
@@ -83,5 +89,5 @@ pub fn try_move(line: &[u8]) {
         depth,
         &mut result,
         room,
-    );
+    )
 }

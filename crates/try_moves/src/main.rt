@@ -4,36 +4,37 @@
 //   add ROWS SOURCE NAME ROOM           a move at a name of a root and its files
 #![tactic(auto)]
 
-use libc::STDIN_FILENO;
+use std::io;
 
 // One line, by its first letter.
-fn try_line(line: &[u8]) {
+fn try_line(rt: &impl Print, line: &[u8]) -> io::Result<()> {
     if line.len() == 0 {
-        return;
+        return Ok(());
     }
     if line[0] == b'm' {
-        try_move::try_move(line);
+        try_move::try_move(rt, line)
     } else {
-        try_add::try_add(line);
+        try_add::try_add(rt, line)
     }
 }
 
 // Each line of a text.
-fn try_lines(text: &[u8]) {
+fn try_lines(rt: &impl Print, text: &[u8]) -> io::Result<()> {
     let mut from = 0;
     while from < text.len() {
         let end = try_fields::line_end(text, from);
-        try_line(&text[from..end]);
+        try_line(rt, &text[from..end])?;
         if end == text.len() {
-            return;
+            return Ok(());
         }
         from = end + 1;
     }
+    Ok(())
 }
 
 // Every line of the input.
-fn main() {
-    let mut text = io::large_buffer();
-    let n = io::read_full(STDIN_FILENO, &mut text);
-    try_lines(&text[..n]);
+fn main(rt: HostRuntime) -> io::Result<()> {
+    let mut text = [0u8; 65536];
+    let n = read_whole::fill(&mut rt.stdin(), &mut text)?;
+    try_lines(&rt, &text[..n])
 }

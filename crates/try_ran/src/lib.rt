@@ -4,6 +4,7 @@
 ghost use Rattle.std.specs.Prelude.{◌≤◌};
 
 use plan_run::Ran;
+use std::io;
 
 // The words of a room: those in field k of a line, or all of it where the line has no such field.
 pub fn room(line: &[u8], k: usize, most: usize) -> usize
@@ -17,43 +18,44 @@ pub fn room(line: &[u8], k: usize, most: usize) -> usize
 }
 
 // What was answered, and the tally.
-pub fn print_ran(ran: Ran) {
+pub fn print_ran(rt: &impl Print, ran: Ran) -> io::Result<()> {
     let a = ran.answer;
-    try_show::print_number(a.number as usize);
-    try_show::print_number(a.side as usize);
-    try_show::print_number(a.place);
-    try_show::print(b" counts");
-    try_show::print_number(a.archive);
-    try_show::print_number(a.left);
-    try_show::print_number(a.right);
-    try_show::print_number(a.list);
+    try_show::print_number(rt, a.number as usize)?;
+    try_show::print_number(rt, a.side as usize)?;
+    try_show::print_number(rt, a.place)?;
+    try_show::print(rt, b" counts")?;
+    try_show::print_number(rt, a.archive)?;
+    try_show::print_number(rt, a.left)?;
+    try_show::print_number(rt, a.right)?;
+    try_show::print_number(rt, a.list)?;
     let t = ran.tally;
-    try_show::print(b" tally");
-    try_show::print_number(t.left as usize);
-    try_show::print_number(t.right as usize);
-    try_show::print_number(t.clash as usize);
+    try_show::print(rt, b" tally")?;
+    try_show::print_number(rt, t.left as usize)?;
+    try_show::print_number(rt, t.right as usize)?;
+    try_show::print_number(rt, t.clash as usize)
 }
 
 // Each of some words.
-fn print_words(words: &[u32]) {
+fn print_words(rt: &impl Print, words: &[u32]) -> io::Result<()> {
     let mut i = 0;
     while i < words.len() {
-        try_show::print_number(table_row::wide(words[i]));
+        try_show::print_number(rt, table_row::wide(words[i]))?;
         i += 1;
     }
+    Ok(())
 }
 
 // The first words of a list, or their sum where they are many, and how many past them are kept.
-pub fn print_list(list: &[u32], entries: usize) {
+pub fn print_list(rt: &impl Print, list: &[u32], entries: usize) -> io::Result<()> {
     if list.len() / 3 < entries {
-        return;
+        return Ok(());
     }
     let n = 3 * entries;
-    try_show::print(b" list");
+    try_show::print(rt, b" list")?;
     if entries < 10 {
-        print_words(&list[..n]);
+        print_words(rt, &list[..n])?;
     } else {
-        try_show::print_number(try_show::sum(&list[..n]) as usize);
+        try_show::print_number(rt, try_show::sum(&list[..n]) as usize)?;
     }
-    try_show::print_number(try_show::kept(&list[n..]));
+    try_show::print_number(rt, try_show::kept(&list[n..]))
 }

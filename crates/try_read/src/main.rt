@@ -7,64 +7,72 @@
 
 ghost use Rattle.std.specs.Prelude.{◌<◌, length};
 
-use libc::STDIN_FILENO;
+use std::io;
+use std::rt::Files;
 use tree::Profile;
 
 // Reads a text into a table, and tells what came of it.
-fn tell(line: &[u8], text: &[u8], table: &mut [u32]) {
+fn tell(rt: &impl Print, line: &[u8], text: &[u8], table: &mut [u32]) -> io::Result<()> {
     let n = table.len();
     try_rows::set_words(table, 0, n, try_show::CANARY);
-    try_show::print_case(line);
-    let rows = try_reading::tell_read(Profile::Exact, text, table);
-    try_read_rows::tell_rows(table, rows);
+    try_show::print_case(rt, line)?;
+    let rows = try_reading::tell_read(rt, Profile::Exact, text, table)?;
+    try_read_rows::tell_rows(rt, table, rows)
 }
 
 // With only the first words of a table lent.
-fn tell_within(line: &[u8], text: &[u8], table: &mut [u32], words: usize) {
+fn tell_within(
+    rt: &impl Print,
+    line: &[u8],
+    text: &[u8],
+    table: &mut [u32],
+    words: usize,
+) -> io::Result<()> {
     if words <= table.len() {
-        tell(line, text, &mut table[..words]);
+        tell(rt, line, text, &mut table[..words])?;
     }
+    Ok(())
 }
 
 // A case.
-fn try_case(line: &[u8])
+fn try_case(rt: &(impl Files + Print), line: &[u8]) -> io::Result<()>
     requires { 0 < length line.now }
 {
     let mut text = [0u8; 65600];
     let mut table = [0u32; 82000];
-    let n = try_texts::make(line, &mut text);
-    tell_within(line, &text[..n], &mut table, try_fields::count(line, 1));
+    let n = try_texts::make(rt, line, &mut text);
+    tell_within(rt, line, &text[..n], &mut table, try_fields::count(line, 1))
 }
 
 // One line.
-fn try_line(line: &[u8]) {
+fn try_line(rt: &(impl Files + Print), line: &[u8]) -> io::Result<()> {
     if line.len() == 0 {
-        return;
+        return Ok(());
     }
     if line[0] == b'#' {
-        try_show::print(line);
-        try_show::print(b"\n");
-        return;
+        try_show::print(rt, line)?;
+        return try_show::print(rt, b"\n");
     }
-    try_case(line);
+    try_case(rt, line)
 }
 
 // Each line of a text.
-fn try_lines(text: &[u8]) {
+fn try_lines(rt: &(impl Files + Print), text: &[u8]) -> io::Result<()> {
     let mut from = 0;
     while from < text.len() {
         let end = try_fields::line_end(text, from);
-        try_line(&text[from..end]);
+        try_line(rt, &text[from..end])?;
         if end == text.len() {
-            return;
+            return Ok(());
         }
         from = end + 1;
     }
+    Ok(())
 }
 
 // Every line of the input.
-fn main() {
-    let mut text = io::large_buffer();
-    let n = io::read_full(STDIN_FILENO, &mut text);
-    try_lines(&text[..n]);
+fn main(rt: HostRuntime) -> io::Result<()> {
+    let mut text = [0u8; 65536];
+    let n = read_whole::fill(&mut rt.stdin(), &mut text)?;
+    try_lines(&rt, &text[..n])
 }

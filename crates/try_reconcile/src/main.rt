@@ -4,16 +4,17 @@
 //   CASE ARCHIVE LEFT RIGHT ROOM ROOM ROOM ROOM      the rooms are words, of archive, left, right and list
 #![tactic(auto)]
 
-use libc::STDIN_FILENO;
+use std::io;
 use tree::Profile;
 
 // A run with buffers of its own.
-fn try_run(line: &[u8], o: &[u32], l: &[u32], r: &[u32]) {
+fn try_run(rt: &impl Print, line: &[u8], o: &[u32], l: &[u32], r: &[u32]) -> io::Result<()> {
     let mut archive = [try_show::CANARY; 200];
     let mut left = [try_show::CANARY; 200];
     let mut right = [try_show::CANARY; 200];
     let mut list = [try_show::CANARY; 30];
     let n = try_run::tell_run(
+        rt,
         Profile::Exact,
         line,
         o,
@@ -23,39 +24,40 @@ fn try_run(line: &[u8], o: &[u32], l: &[u32], r: &[u32]) {
         &mut left,
         &mut right,
         &mut list,
-    );
-    try_show_rows::print_results(&archive, n.archive, &left, n.left, &right, n.right);
-    try_show::print(b"\n");
+    )?;
+    try_show_rows::print_results(rt, &archive, n.archive, &left, n.left, &right, n.right)?;
+    try_show::print(rt, b"\n")
 }
 
 // The tables of a line, and a run on them.
-fn try_line(line: &[u8]) {
+fn try_line(rt: &impl Print, line: &[u8]) -> io::Result<()> {
     let mut o = [0u32; 200];
     let mut l = [0u32; 200];
     let mut r = [0u32; 200];
     let a = try_sample::fill(line, 1, &mut o);
     let b = try_sample::fill(line, 2, &mut l);
     let c = try_sample::fill(line, 3, &mut r);
-    try_show::print_case(line);
-    try_run(line, &o[..a], &l[..b], &r[..c]);
+    try_show::print_case(rt, line)?;
+    try_run(rt, line, &o[..a], &l[..b], &r[..c])
 }
 
 // Line by line.
-fn try_lines(text: &[u8]) {
+fn try_lines(rt: &impl Print, text: &[u8]) -> io::Result<()> {
     let mut from = 0;
     while from < text.len() {
         let end = try_fields::line_end(text, from);
-        try_line(&text[from..end]);
+        try_line(rt, &text[from..end])?;
         if end == text.len() {
-            return;
+            return Ok(());
         }
         from = end + 1;
     }
+    Ok(())
 }
 
 // The cases of the input.
-fn main() {
-    let mut text = io::large_buffer();
-    let n = io::read_full(STDIN_FILENO, &mut text);
-    try_lines(&text[..n]);
+fn main(rt: HostRuntime) -> io::Result<()> {
+    let mut text = [0u8; 65536];
+    let n = read_whole::fill(&mut rt.stdin(), &mut text)?;
+    try_lines(&rt, &text[..n])
 }

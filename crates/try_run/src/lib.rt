@@ -3,10 +3,12 @@
 
 use plan_run::Reconciled;
 use plan_tally::Tally;
+use std::io;
 use tree::Profile;
 
 // A run with the rooms of a line, at the start of buffers.
 pub fn tell_run(
+    rt: &impl Print,
     profile: Profile,
     line: &[u8],
     o: &[u32],
@@ -16,7 +18,7 @@ pub fn tell_run(
     left: &mut [u32],
     right: &mut [u32],
     list: &mut [u32],
-) -> Reconciled {
+) -> io::Result<Reconciled> {
     let a = try_ran::room(line, 4, archive.len());
     let b = try_ran::room(line, 5, left.len());
     let c = try_ran::room(line, 6, right.len());
@@ -37,7 +39,7 @@ pub fn tell_run(
         },
     );
     let n = ran.answer;
-    try_ran::print_ran(ran);
-    try_ran::print_list(list, n.list);
-    n
+    try_ran::print_ran(rt, ran)?;
+    try_ran::print_list(rt, list, n.list)?;
+    Ok(n)
 }

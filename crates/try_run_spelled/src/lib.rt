@@ -1,20 +1,28 @@
 // One case of a reconciliation in a profile: the tables of a line, and a run on them.
 #![tactic(auto)]
 
+use std::io;
 use tree::Profile;
 
 // A run on the tables of a line.
-fn run_in(profile: Profile, line: &[u8], o: &mut [u32], l: &mut [u32], r: &mut [u32]) {
+fn run_in(
+    rt: &impl Print,
+    profile: Profile,
+    line: &[u8],
+    o: &mut [u32],
+    l: &mut [u32],
+    r: &mut [u32],
+) -> io::Result<()> {
     let a = try_spelled::fill(line, 1, o);
     let b = try_spelled::fill(line, 2, l);
     let c = try_spelled::fill(line, 3, r);
-    try_run_in::run_on(profile, line, &o[..a], &l[..b], &r[..c]);
+    try_run_in::run_on(rt, profile, line, &o[..a], &l[..b], &r[..c])
 }
 
 // A line `run`.
-pub fn try_run(profile: Profile, line: &[u8]) {
+pub fn try_run(rt: &impl Print, profile: Profile, line: &[u8]) -> io::Result<()> {
     let mut o = [0u32; 81980];
     let mut l = [0u32; 81980];
     let mut r = [0u32; 81980];
-    run_in(profile, line, &mut o, &mut l, &mut r);
+    run_in(rt, profile, line, &mut o, &mut l, &mut r)
 }

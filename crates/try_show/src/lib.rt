@@ -3,7 +3,7 @@
 
 ghost use Rattle.std.specs.Prelude.{◌≤◌, ◌<◌};
 
-use libc::STDOUT_FILENO;
+use std::io;
 
 // What stands in a result before a call.
 pub const CANARY: u32 = 0xC0FFEE11;
@@ -45,39 +45,38 @@ pub fn kept(words: &[u32]) -> usize {
 }
 
 // The line of a case, and a colon.
-pub fn print_case(case: &[u8]) {
-    print(case);
-    print(b":");
+pub fn print_case(rt: &impl Print, case: &[u8]) -> io::Result<()> {
+    print(rt, case)?;
+    print(rt, b":")
 }
 
 // Some text.
-pub fn print(text: &[u8]) {
-    io::write_all(STDOUT_FILENO, text);
+pub fn print(rt: &impl Print, text: &[u8]) -> io::Result<()> {
+    rt.write_all(text)
 }
 
 // A space and a number.
-pub fn print_number(x: usize) {
-    print(b" ");
-    io::print_decimal(STDOUT_FILENO, x as u64);
+pub fn print_number(rt: &impl Print, x: usize) -> io::Result<()> {
+    print!(rt; " {x}")
 }
 
 // An answer's number, side and place; the rows written.
-pub fn print_answer(answer: table_rules::Answer) -> usize {
+pub fn print_answer(rt: &impl Print, answer: table_rules::Answer) -> io::Result<usize> {
     match answer {
         table_rules::Answer::Accepted { place } => {
-            print(b" 0 0");
-            print_number(place);
-            place
+            print(rt, b" 0 0")?;
+            print_number(rt, place)?;
+            Ok(place)
         }
         table_rules::Answer::Refused {
             number,
             side,
             place,
         } => {
-            print_number(number as usize);
-            print_number(side as usize);
-            print_number(place);
-            0
+            print_number(rt, number as usize)?;
+            print_number(rt, side as usize)?;
+            print_number(rt, place)?;
+            Ok(0)
         }
     }
 }

@@ -8,20 +8,20 @@
 
 ghost use Rattle.std.specs.Prelude.{◌<◌};
 
-use libc::STDIN_FILENO;
+use std::io;
 use tree::Profile;
 
 // The rows that are carried.
-fn tell_rows(line: &[u8], rows: &[u32]) {
-    try_show::print_case(line);
-    try_show::print_number(rows.len() / 20);
-    try_show_rows::print_rows(rows);
-    try_show::print_number(try_show::sum(rows) as usize);
-    try_show::print(b"\n");
+fn tell_rows(rt: &impl Print, line: &[u8], rows: &[u32]) -> io::Result<()> {
+    try_show::print_case(rt, line)?;
+    try_show::print_number(rt, rows.len() / 20)?;
+    try_show_rows::print_rows(rt, rows)?;
+    try_show::print_number(rt, try_show::sum(rows) as usize)?;
+    try_show::print(rt, b"\n")
 }
 
 // A line `entry`.
-fn try_entry(line: &[u8]) {
+fn try_entry(rt: &impl Print, line: &[u8]) -> io::Result<()> {
     let mut left = [0u32; 400];
     let n = try_sample::fill(line, 1, &mut left);
     let mut right = [0u32; 400];
@@ -30,6 +30,7 @@ fn try_entry(line: &[u8]) {
     let left_row = try_fields::small(line, 4);
     let right_row = try_fields::small(line, 5);
     tell_rows(
+        rt,
         line,
         table_carry::carried(
             Profile::Exact,
@@ -39,38 +40,39 @@ fn try_entry(line: &[u8]) {
             left_row,
             right_row,
         ),
-    );
+    )
 }
 
 // One line, by its first letter.
-fn try_line(line: &[u8]) {
+fn try_line(rt: &impl Print, line: &[u8]) -> io::Result<()> {
     if line.len() == 0 {
-        return;
+        return Ok(());
     }
     match line[0] {
-        b'c' => try_check::try_check(line),
-        b'l' => try_check::try_large(line),
-        b'e' => try_entry(line),
-        _ => {}
+        b'c' => try_check::try_check(rt, line),
+        b'l' => try_check::try_large(rt, line),
+        b'e' => try_entry(rt, line),
+        _ => Ok(()),
     }
 }
 
 // Each line of a text.
-fn try_lines(text: &[u8]) {
+fn try_lines(rt: &impl Print, text: &[u8]) -> io::Result<()> {
     let mut from = 0;
     while from < text.len() {
         let end = try_fields::line_end(text, from);
-        try_line(&text[from..end]);
+        try_line(rt, &text[from..end])?;
         if end == text.len() {
-            return;
+            return Ok(());
         }
         from = end + 1;
     }
+    Ok(())
 }
 
 // Every line of the input.
-fn main() {
-    let mut text = io::large_buffer();
-    let n = io::read_full(STDIN_FILENO, &mut text);
-    try_lines(&text[..n]);
+fn main(rt: HostRuntime) -> io::Result<()> {
+    let mut text = [0u8; 65536];
+    let n = read_whole::fill(&mut rt.stdin(), &mut text)?;
+    try_lines(&rt, &text[..n])
 }

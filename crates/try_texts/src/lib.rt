@@ -7,6 +7,9 @@
 
 ghost use Rattle.std.specs.Prelude.{◌≡◌, ◌≤◌, ◌<◌, length};
 
+use std::rt::Files;
+use std::{fs, str};
+
 // A text of n bytes, and a comment that brings it to a length.
 fn pad(text: &mut [u8], n: usize, to: usize) -> usize
     requires { n ≤ length text.old }
@@ -44,29 +47,32 @@ fn grow(text: &mut [u8], count: u32, step: u32) -> usize
     n
 }
 
-// The bytes of a file.
-fn load(name: &[u8], text: &mut [u8]) -> usize
+// The bytes of a file; none where it can't be read.
+fn load(rt: &impl Files, name: &[u8], text: &mut [u8]) -> usize
     ensures { (result ≤ length text.old) × (length text.new ≡ length text.old) }
 {
-    let fd = os::open_read(name);
-    let n = io::read_full(fd, text);
-    libc::close(fd);
-    n
+    let Ok(path) = str::from_utf8(name) else {
+        return 0;
+    };
+    let Ok(mut file) = fs::open(rt, path) else {
+        return 0;
+    };
+    read_whole::fill(&mut file, text).unwrap_or(0)
 }
 
 // The bytes of the file that field k of a line and what follows it name.
-fn load_field(line: &[u8], k: usize, text: &mut [u8]) -> usize
+fn load_field(rt: &impl Files, line: &[u8], k: usize, text: &mut [u8]) -> usize
     ensures { (result ≤ length text.old) × (length text.new ≡ length text.old) }
 {
     let at = try_fields::field(line, k);
     if line.len() < at {
         return 0;
     }
-    load(&line[at..], text)
+    load(rt, &line[at..], text)
 }
 
 // The text of a case; its bytes.
-pub fn make(line: &[u8], text: &mut [u8]) -> usize
+pub fn make(rt: &impl Files, line: &[u8], text: &mut [u8]) -> usize
     requires { 0 < length line.now }
     ensures { (result ≤ length text.old) × (length text.new ≡ length text.old) }
 {
@@ -77,6 +83,6 @@ pub fn make(line: &[u8], text: &mut [u8]) -> usize
             pad(text, n, try_fields::count(line, 2))
         }
         b'm' => grow(text, try_fields::small(line, 2), try_fields::small(line, 3)),
-        _ => load_field(line, 2, text),
+        _ => load_field(rt, line, 2, text),
     }
 }

@@ -4,74 +4,71 @@
 
 ghost use Rattle.std.specs.Prelude.{◌≡◌, ◌<◌, length};
 
-use libc::STDOUT_FILENO;
+use std::io;
 use tree::Profile;
 
 // An answer: its number, side and place.
-fn tell(number: u32, side: u32, place: usize) {
-    io::write_all(STDOUT_FILENO, b"# ");
-    io::print_decimal(STDOUT_FILENO, number as u64);
-    io::write_all(STDOUT_FILENO, b" ");
-    io::print_decimal(STDOUT_FILENO, side as u64);
-    io::write_all(STDOUT_FILENO, b" ");
-    io::print_decimal(STDOUT_FILENO, place as u64);
-    io::write_all(STDOUT_FILENO, b"\n");
+fn tell(rt: &impl Print, number: u32, side: u32, place: usize) -> io::Result<()> {
+    println!(rt; "# {number} {side} {place}")
 }
 
 // The first n of some bytes.
-fn print(text: &[u8], n: usize) {
+fn print(rt: &impl Print, text: &[u8], n: usize) -> io::Result<()> {
     if n <= text.len() {
-        io::write_all(STDOUT_FILENO, &text[..n]);
+        rt.write_all(&text[..n])?;
     }
+    Ok(())
 }
 
 // Writes a table into the lent bytes, prints the text, and tells the answer; the bytes written.
-fn show(table: &[u32], text: &mut [u8]) -> usize {
+fn show(rt: &impl Print, table: &[u32], text: &mut [u8]) -> io::Result<usize> {
     match listing_write::write(Profile::Exact, table, text) {
         table_rules::Answer::Accepted { place } => {
-            print(text, place);
-            tell(0, 0, place);
-            place
+            print(rt, text, place)?;
+            tell(rt, 0, 0, place)?;
+            Ok(place)
         }
         table_rules::Answer::Refused {
             number,
             side,
             place,
         } => {
-            tell(number, side, place);
-            0
+            tell(rt, number, side, place)?;
+            Ok(0)
         }
     }
 }
 
 // With only the first n bytes lent.
-fn show_within(table: &[u32], text: &mut [u8], n: usize) {
+fn show_within(rt: &impl Print, table: &[u32], text: &mut [u8], n: usize) -> io::Result<()> {
     if text.len() < n {
-        return;
+        return Ok(());
     }
-    show(table, &mut text[..n]);
+    show(rt, table, &mut text[..n])?;
+    Ok(())
 }
 
 // A table that keeps the rules, in room and with one byte too few, then a word too few and a depth too many.
-fn show_each(table: &mut [u32], text: &mut [u8])
+fn show_each(rt: &impl Print, table: &mut [u32], text: &mut [u8]) -> io::Result<()>
     requires { length table.old ≡ 520 }
 {
-    let n = show(table, text);
+    let n = show(rt, table, text)?;
     if n == 0 {
-        return;
+        return Ok(());
     }
-    show_within(table, text, n - 1);
-    show(&table[..519], text);
+    show_within(rt, table, text, n - 1)?;
+    show(rt, &table[..519], text)?;
     table[40] = 3;
-    show(table, text);
+    show(rt, table, text)?;
+    Ok(())
 }
 
 // The listing, and then the refusals.
-fn main() {
+fn main(rt: HostRuntime) -> io::Result<()> {
     let mut table = [0u32; 520];
     try_write_tables::fill_files(&mut table);
     try_write_tables::fill_sizes(&mut table);
     try_write_tables::fill_folders(&mut table);
     let mut text = [0u8; 4096];
-    show_each(&mut table, &mut text);
+    show_each(&rt, &mut table, &mut text)
 }

@@ -3,30 +3,30 @@
 
 ghost use Rattle.std.specs.Prelude.{◌≤◌, ◌<◌};
 
+use std::io;
 use tree::Profile;
 
 // What stands in a text before it is written.
 const MARK: u8 = b'~';
 
 // A byte of a text.
-fn print_byte(b: u8) {
+fn print_byte(rt: &impl Print, b: u8) -> io::Result<()> {
     if b == 10 {
-        try_show::print(b"|");
-        return;
+        return try_show::print(rt, b"|");
     }
     let one = [b];
-    try_show::print(&one);
+    try_show::print(rt, &one)
 }
 
 // The bytes of a text, in brackets.
-fn print_text(text: &[u8]) {
-    try_show::print(b" [");
+fn print_text(rt: &impl Print, text: &[u8]) -> io::Result<()> {
+    try_show::print(rt, b" [")?;
     let mut i = 0;
     while i < text.len() {
-        print_byte(text[i]);
+        print_byte(rt, text[i])?;
         i += 1;
     }
-    try_show::print(b"]");
+    try_show::print(rt, b"]")
 }
 
 // 1 for a byte that is as it was before a call, else 0.
@@ -48,27 +48,36 @@ fn kept(text: &[u8]) -> usize {
 }
 
 // A table written into the first bytes of a text, which is marked.
-fn tell_written(profile: Profile, table: &[u32], text: &mut [u8], room: usize) {
+fn tell_written(
+    rt: &impl Print,
+    profile: Profile,
+    table: &[u32],
+    text: &mut [u8],
+    room: usize,
+) -> io::Result<()> {
     if text.len() < room {
-        return;
+        return Ok(());
     }
-    let bytes = try_show::print_answer(listing_write::write(profile, table, &mut text[..room]));
+    let bytes = try_show::print_answer(
+        rt,
+        listing_write::write(profile, table, &mut text[..room]),
+    )?;
     if text.len() < bytes {
-        return;
+        return Ok(());
     }
-    print_text(&text[..bytes]);
-    try_show::print_number(kept(&text[bytes..]));
+    print_text(rt, &text[..bytes])?;
+    try_show::print_number(rt, kept(&text[bytes..]))
 }
 
 // A table written into a text of its own.
-pub fn tell_write(profile: Profile, table: &[u32], room: usize) {
+pub fn tell_write(rt: &impl Print, profile: Profile, table: &[u32], room: usize) -> io::Result<()> {
     let mut text = [MARK; 65600];
-    tell_written(profile, table, &mut text, room);
+    tell_written(rt, profile, table, &mut text, room)
 }
 
 // A line `write`.
-pub fn try_write(profile: Profile, line: &[u8]) {
+pub fn try_write(rt: &impl Print, profile: Profile, line: &[u8]) -> io::Result<()> {
     let mut table = [0u32; 400];
     let n = try_spelled::fill(line, 1, &mut table);
-    tell_write(profile, &table[..n], try_fields::count(line, 2));
+    tell_write(rt, profile, &table[..n], try_fields::count(line, 2))
 }

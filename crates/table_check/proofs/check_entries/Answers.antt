@@ -2,36 +2,17 @@
 -- last row of each depth is remembered.
 use mathlib.Core.Path.{◌≡◌, sym, ◌∙◌}
 use mathlib.Core.Bool.{true}
-use mathlib.Core.Logic.{⊎_elim}
 use native.Mathlib.Omega.{arith}
-use Prim.Native.Nat.{◌-◌, ◌≤◌}
 use borrow.Author.Rules.{rules}
 use Rattle.tree.proofs.Never.{never}
 use Rattle.table_row.specs.Table.{row_at, depth}
-use Rattle.table_rules.specs.Rules.{deepest, before}
+use Rattle.table_rules.specs.Rules.{before}
 use Rattle.table_rules.specs.Keyed.{ok_row_in, no_twin}
 use Rattle.table_rules.specs.declared.Checked.TheVariants.{Fine, BadRow}
 use Rattle.table_rules.proofs.Rows.{passed-next, lowest-row, lowest-fine, fit-good, fit-twin, fit-bad, told-next, told-row, told-all}
 use Rattle.table_check.proofs.Last.{depth-most, lasts-first, lasts-next, root-passes, ok-depth}
 use Rattle.table_check.proofs.check_entries.Goals as goal
-use Rattle.table_check.proofs.check_entries.Goals.{After-wide, Joined-row_fit}
-
--- a row that is no bad one
-good : (c : Joined-row_fit) → (let a = c.args in
-    ok_row_in a.profile (before a.t.now c.loop-i.i) (row_at a.t.now c.loop-i.i) ≡ true)
-good c =
-    let fit = sym c.row_fit.ensures in
-    ⊎_elim (λ z. (fit-good _ _ _ (fit ∙ z.1.given.1)).0) (λ z. (fit-twin _ _ _ (fit ∙ z.1.given.1)).0) c.match-row_fit.branch
-
--- the depth under which it is remembered
-is-depth : (c : After-wide) → (c.wide.result ≡ depth (row_at c.args.t.now c.loop-i.i))
-is-depth c = c.wide.ensures.0 ∙ c.word.ensures
-
-may-follow : (c : Joined-row_fit) → (let w = c.args.t.now in
-    (depth (row_at w c.loop-i.i) ≤ 16) × (depth (row_at w c.loop-i.i) ≤ deepest (row_at w (c.loop-i.i - 1))))
-may-follow c =
-    let a = c.args in
-    depth-most _ _ (ok-depth a.profile a.t.now c.loop-i.i c.loop-i.invariant.0 (good c))
+use Rattle.table_check.proofs.check_entries.Goals.{in-Good, in-Twin}
 
 pub loop-i-init : goal.loop-i-init
 loop-i-init c =
@@ -52,23 +33,37 @@ returns-in-Bad c =
     record { lowest-bad = sym e; lowest-twin = λ g. let n : BadRow i ≡ Fine = g in never (cc) }
 
 pub remember-requires : goal.remember-requires
-remember-requires c = omega (arith, is-depth c, (may-follow c).0)
+remember-requires c =
+    let a = c.args in
+    let good : ok_row_in a.profile (before a.t.now c.loop-i.i) (row_at a.t.now c.loop-i.i) ≡ true =
+    elim c.match-row_fit.branch [
+      | in-Good z ↦ (fit-good _ _ _ (sym c.row_fit.ensures ∙ z.in-Good.is)).0
+      | in-Twin z ↦ (fit-twin _ _ _ (sym c.row_fit.ensures ∙ z.in-Twin.is)).0
+    ] in
+    let is-depth : c.wide.result ≡ depth (row_at a.t.now c.loop-i.i) = c.wide.ensures.0 ∙ c.word.ensures in
+    omega (arith, is-depth, (depth-most _ _ (ok-depth a.profile a.t.now c.loop-i.i c.loop-i.invariant.0 good)).0)
 
 pub loop-i-preserved : goal.loop-i-preserved
 loop-i-preserved c =
     let a = c.args in
+    let good : ok_row_in a.profile (before a.t.now c.loop-i.i) (row_at a.t.now c.loop-i.i) ≡ true =
+    elim c.match-row_fit.branch [
+      | in-Good z ↦ (fit-good _ _ _ (sym c.row_fit.ensures ∙ z.in-Good.is)).0
+      | in-Twin z ↦ (fit-twin _ _ _ (sym c.row_fit.ensures ∙ z.in-Twin.is)).0
+    ] in
+    let is-depth : c.wide.result ≡ depth (row_at a.t.now c.loop-i.i) = c.wide.ensures.0 ∙ c.word.ensures in
     let w = a.t.now in
     let i = c.loop-i.i in
     let p = a.profile in
     let fit = sym c.row_fit.ensures in (
       search rules,
       search rules,
-      rw (c.remember.ensures, is-depth c) (lasts-next p w i c.loop-i.last c.requires.0 c.loop-i.invariant.0 (ok-depth p w i c.loop-i.invariant.0 (good c)) c.loop-i.invariant.2),
-      passed-next (ok_row_in p) w i (search rules) (good c) c.loop-i.invariant.3,
-      ⊎_elim
-          (λ z. rw z.2 (told-next (no_twin p) w i (search rules) c.loop-i.twins (fit-good p _ _ (fit ∙ z.1.given.1)).1 c.loop-i.invariant.4))
-          (λ z. rw (z.3, z.2.ensures) (told-row (no_twin p) w i (search rules) c.loop-i.twins (fit-twin p _ _ (fit ∙ z.1.given.1)).1 c.loop-i.invariant.4))
-          c.match-row_fit.branch,
+      rw (c.remember.ensures, is-depth) (lasts-next p w i c.loop-i.last c.requires.0 c.loop-i.invariant.0 (ok-depth p w i c.loop-i.invariant.0 good) c.loop-i.invariant.2),
+      passed-next (ok_row_in p) w i (search rules) good c.loop-i.invariant.3,
+      elim c.match-row_fit.branch [
+        | in-Good z ↦ rw z.twins-is (told-next (no_twin p) w i (search rules) c.loop-i.twins (fit-good p _ _ (fit ∙ z.in-Good.is)).1 c.loop-i.invariant.4)
+        | in-Twin z ↦ rw (z.twins-is, z.or_row-twins.ensures) (told-row (no_twin p) w i (search rules) c.loop-i.twins (fit-twin p _ _ (fit ∙ z.in-Twin.is)).1 c.loop-i.invariant.4)
+      ],
     )
 
 pub returns : goal.returns

@@ -7,14 +7,14 @@ use Rattle.table_check.proofs.Last.{root-fails}
 use Rattle.table_check.proofs.check_rows.Goals as goal
 
 pub slice_bounds-all_zero-end : goal.slice_bounds-all_zero-end
-slice_bounds-all_zero-end c = sym (length-take-le 20 c.before.before.args.t.now c.before.before.requires)
+slice_bounds-all_zero-end c = sym (length-take-le 20 c.args.t.now c.requires)
 
 pub check_entries-requires : goal.check_entries-requires
-check_entries-requires c = (c.before.before.before.before.requires, sym c.all_zero.ensures ∙ c.if-all_zero.true)
+check_entries-requires c = (c.requires, sym c.all_zero.ensures ∙ c.if-all_zero.true)
 
 pub returns : goal.returns
 returns c =
     record {
-      lowest-bad = sym (root-fails s.args.profile s.args.t.now s.requires (sym c.all_zero.ensures ∙ c.if-all_zero.false));
+      lowest-bad = sym (root-fails c.args.profile c.args.t.now c.requires (sym c.all_zero.ensures ∙ c.if-all_zero.false));
       lowest-twin = λ g. let n : BadRow 0 ≡ Fine = g in never (cc);
     }
