@@ -14,7 +14,7 @@ use Rattle.listing.specs.Entries.{Said, Said.none}
 use Rattle.listing.specs.Reading.{State, State.before, State.inside, Step.goes, Outcome.accepted, ends_in_lf, most_rows, reading}
 use Rattle.listing_layout.specs.Whole.{pieces}
 use Rattle.listing_layout.specs.Parts.{through}
-use Rattle.listing_layout.specs.Order.{InTurn, Neighbours, Reordered.same, Reordered.swapped, OrderChangesNothing}
+use Rattle.listing_layout.specs.Order.{InTurn, Neighbours, Reordered, Reordered.same, Reordered.swapped, OrderChangesNothing}
 use Rattle.listing_layout.proofs.Whole.{pieces-append, ends-after}
 use Rattle.listing_layout.proofs.Good.{good-through}
 use Rattle.listing_layout.proofs.Runs.{both, through-append, run-goes, run-back, passed}
@@ -163,6 +163,9 @@ swap-text p a x y b room f N e =
     let goes_on : through p most (pieces (a ++ (y ++ (x ++ b)))) (before none) ≡ goes R.0 = rw (pieces-before p most a y x b (turned N)) swap in
     rw (ends-swapped p most a x y b N, length-swapped p most a x y b N, P.form) (run-goes p most (lines (a ++ (y ++ (x ++ b)))) (before none) R.0 goes_on ∙ R.2)
 
+order-kept : (p : Profile) (room : ℕ) (f : Forest) {t u : List ℕ} → Reordered p (most_rows room) t u → reading p t room ≡ accepted f → reading p u room ≡ accepted f
+order-kept p room f same e = e
+order-kept p room f (swapped a x y b N r) e = order-kept p room f r (swap-text p a x y b room f N e)
+
 pub order-changes-nothing : OrderChangesNothing
-order-changes-nothing p t u room f same e = e
-order-changes-nothing p t u room f (swapped a x y b N r) e = order-changes-nothing p (a ++ (y ++ (x ++ b))) u room f r (swap-text p a x y b room f N e)
+order-changes-nothing p t u room f r e = order-kept p room f r e

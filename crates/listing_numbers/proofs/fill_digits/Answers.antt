@@ -13,12 +13,12 @@ loop-k-init c =
 
 pub returns-then-m-lt10 : goal.returns-then-m-lt10
 returns-then-m-lt10 c =
-    let l = c.loop-k-test in
+    let l = c.loop-k in
     (search rules, simp length-set (search rules), first-digit l.digits (l.k - 1) l.m (search rules) (search rules) (search rules) ∙ l.invariant.2)
 
 pub loop-k-preserved : goal.loop-k-preserved
 loop-k-preserved c =
-    let l = c.loop-k-test in
+    let l = c.loop-k in
     (search rules, simp length-set (search rules), next-digit l.digits (l.k - 1) l.m (search rules) (search rules) (search rules) ∙ l.invariant.2)
 
 pub returns : goal.returns

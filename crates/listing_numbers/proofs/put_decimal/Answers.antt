@@ -11,9 +11,9 @@ use Rattle.listing_numbers.proofs.put_decimal.Goals as goal
 
 pub returns : goal.returns
 returns c =
-    let f = c.digits-1 in
-    let n = c.before.before.before.before.before.before.before.before.before.args.n in
-    let d = f.new.0 in
+    let f = c.fill_digits-first in
+    let n = c.args.n in
+    let d = f.new.digits in
     let l = length-drop f.result d in
     let e : take (20 - f.result) (drop f.result d) ≡ decimal 20 n [] =
     take_all (20 - f.result) (drop f.result d) (omega (arith, l, f.ensures.1)) ∙ f.ensures.2 in

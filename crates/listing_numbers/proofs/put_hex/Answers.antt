@@ -1,6 +1,5 @@
 -- `listing_numbers::put_hex` meets its contract: the digits of the bytes from byte k on are left.
 use native.Mathlib.Omega.{arith}
-use Prim.Native.Nat.{◌-◌}
 use borrow.Author.Rules.{rules}
 use Rattle.tree.specs.Rules.{bytes}
 use Rattle.tree.proofs.Rules.{length-bytes}

@@ -1,7 +1,6 @@
 -- `body_end` meets its contract: from place i on, the line still has as many bytes as are missing.
 use mathlib.Core.Path.{◌≡◌, ap}
 use lib.ListN.{drop, drop_of_length-le}
-use Prim.Native.Nat.{◌-◌}
 use Rattle.listing.specs.Lines.{len_in}
 use Rattle.listing_scan.proofs.Tests.{after}
 use Rattle.listing_scan.proofs.Body.{body-ends, body-goes, body-joins}
@@ -27,8 +26,7 @@ returns-else-back c =
 
 pub loop-i-preserved : goal.loop-i-preserved
 loop-i-preserved c =
-    let s = c.shared_slice_known-in-loop-i-1.given c.loop-i.i in
-    let q = body-goes c.args.text.now c.loop-i.i c.loop-i-test.true c.loop-i.back (omega (arith, s)) c.if-b-eq10.false in
+    let q = body-goes c.args.text.now c.loop-i.i c.loop-i-test.true c.loop-i.back (omega (arith, c.type_inv.text c.loop-i.i)) c.if-b-eq10.false in
     let e = c.loop-i.invariant.1 in
     (search rules, omega arith)
 

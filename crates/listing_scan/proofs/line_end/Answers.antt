@@ -1,9 +1,8 @@
 -- `line_end` meets its contract: from place i on, in mode m, the line still has as many bytes as are missing.
 use mathlib.Core.Path.{◌≡◌, refl, sym, ap, ◌∙◌}
-use mathlib.Core.Bool.{false}
 use native.Mathlib.Omega.{arith}
 use lib.ListN.{drop, drop_of_length-le}
-use Prim.Native.Nat.{◌+◌, ◌-◌}
+use Prim.Native.Nat.{◌+◌}
 use borrow.Author.Rules.{rules}
 use Rattle.listing.specs.Lines.{len_in}
 use Rattle.listing_scan.proofs.Scan.{len-at, len-done}

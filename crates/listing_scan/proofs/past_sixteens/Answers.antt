@@ -1,5 +1,4 @@
 -- `past_sixteens` meets its contract: the bytes before place i are plain.
-use Prim.Native.Nat.{◌-◌}
 use Rattle.listing_scan.proofs.Plain.{past-none, past-join}
 use Rattle.listing_scan.proofs.past_sixteens.Goals as goal
 

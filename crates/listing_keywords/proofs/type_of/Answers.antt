@@ -1,0 +1,14 @@
+-- `type_of` meets its contract: the two values that are known, in turn.
+use mathlib.Core.Path.{sym, ◌∙◌}
+use Rattle.listing_keywords.proofs.type_of.Goals as goal
+
+pub returns-then-same_bytes : goal.returns-then-same_bytes
+returns-then-same_bytes c = rw (sym c.same_bytes.ensures ∙ c.if-same_bytes.true)
+
+pub returns-then-same_bytes-2 : goal.returns-then-same_bytes-2
+returns-then-same_bytes-2 c =
+    rw (sym c.same_bytes.ensures ∙ c.if-same_bytes.false, sym c.same_bytes-2.ensures ∙ c.if-same_bytes-2.true)
+
+pub returns : goal.returns
+returns c =
+    rw (sym c.same_bytes.ensures ∙ c.if-same_bytes.false, sym c.same_bytes-2.ensures ∙ c.if-same_bytes-2.false)
