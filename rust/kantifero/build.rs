@@ -1,4 +1,4 @@
-//! Links libkantifero.a, which `rt staticlib kantifero` writes to target/staticlib of the repository. The variable
+//! Links libkantifero.a, which `tools/build kantifero` writes to target/staticlib of the repository. The variable
 //! KANTIFERO_LIB names another folder that holds it.
 use std::env;
 use std::path::PathBuf;
@@ -12,7 +12,7 @@ fn main() {
     let archive = folder.join("libkantifero.a");
     if !archive.exists() {
         panic!(
-            "{} is missing: run `rt staticlib kantifero` first",
+            "{} is missing: run `tools/build kantifero` first",
             archive.display()
         );
     }
