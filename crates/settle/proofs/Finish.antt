@@ -1,7 +1,7 @@
 -- All the listed moves carried out: the two sides have become the new trees.
-use mathlib.Core.Bool.{Bool, false, true}
+use mathlib.Core.Bool.{true}
 use mathlib.Core.List.{[], ◌∷◌}
-use mathlib.Core.Logic.{inl, inr}
+use mathlib.Core.Logic.{inl}
 use mathlib.Core.Path.{◌∙◌, ◌≡◌, ap, refl, subst, sym}
 use Rattle.tree.specs.Name.{Name}
 use Rattle.tree.specs.Forest.{TreePath, Forest, Node, Node.folder, Sorted, SortedNode, find, kids}
@@ -10,11 +10,11 @@ use Rattle.tree.proofs.Forest.{sorted-child, sorted-find, sorted-kids}
 use Rattle.tree.proofs.Value.{find-ext}
 use Rattle.settle.specs.Decision.{Decision, Decision.agreed, Decision.left_gets, Decision.right_gets, Decision.clash, decide}
 use Rattle.settle.specs.Plan.{plan, settle}
-use Rattle.settle.specs.Results.{Line, Line.line, Lines, Outcome, line_of, list, new, new_left, new_right, to_left, to_right}
-use Rattle.settle.specs.Resume.{Sides, after, In, keep_if, keep, is_clash, IsMove, Chosen, Finishes}
+use Rattle.settle.specs.Results.{Line.line, Lines, Outcome, line_of, list, new, new_left, new_right, to_left, to_right}
+use Rattle.settle.specs.Resume.{Sides, after, In, keep, is_clash, IsMove, Chosen, Finishes}
 use Rattle.settle.proofs.Induct.{NotBoth, settle-ind, settle-single}
 use Rattle.settle.proofs.Lines.{lines_of}
-use Rattle.settle.proofs.Listed.{plan-in}
+use Rattle.settle.proofs.Listed.{in_kept, plan-in}
 use Rattle.settle.proofs.Picks.{Result, Result.left, Result.right, to, to_below, settles}
 use Rattle.settle.proofs.Outcome.{un-folder}
 use Rattle.settle.proofs.Plan.{new-find, new_node}
@@ -24,18 +24,8 @@ use Rattle.settle.proofs.Resume.{sorted-moved, resumes}
 abbrev NoMoves : Lines → Type 0
 NoMoves xs = (p : TreePath) (d : Decision) → In (line p d) xs → IsMove d → ⊥
 
-in_kept : (f : Line → Bool) (x : Line) (xs : Lines) → In x (keep f xs) → f x ≡ true
-unfolding In keep
-in_kept f x [] h = absurd h
-in_kept f x (y ∷ ys) h = go (f y) refl (in_kept f x ys) h
-  where
-    go : (w : Bool) → f y ≡ w → (In x (keep f ys) → f x ≡ true) → In x (keep_if w y (keep f ys)) → f x ≡ true
-    go true e ih (inl q) = rw q e
-    go true e ih (inr i) = ih i
-    go false e ih i = ih i
-
 clashes-alone : (xs : Lines) → NoMoves (keep is_clash xs)
-clashes-alone xs p d h = go d (in_kept is_clash (line p d) xs h)
+clashes-alone xs p d h = go d (in_kept is_clash (line p d) xs h).0
   where
     go : (e : Decision) → is_clash (line p e) ≡ true → IsMove e → ⊥
     go agreed q m = m

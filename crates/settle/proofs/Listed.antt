@@ -15,7 +15,7 @@ use Rattle.settle.specs.Decision.{Decision, Decision.agreed, Decision.clash, Dec
 use Rattle.settle.specs.Names.{Names, names}
 use Rattle.settle.specs.Plan.{plan, settle}
 use Rattle.settle.specs.Results.{Line, Line.line, Lines, line_of, list, under}
-use Rattle.settle.specs.Resume.{In, elsewhere, keep, same_path}
+use Rattle.settle.specs.Resume.{In, elsewhere, keep, keep_if, same_path}
 use Rattle.settle.proofs.Induct.{NotBoth, settle-single}
 use Rattle.settle.proofs.Lines.{gather, keep_all, keep-cong, keep-under, lines_at, lines_at-out, lines_of, list-plan}
 use Rattle.settle.proofs.Names.{has}
@@ -119,6 +119,17 @@ no-root d o l r h = let a = in-plan [] d o l r h in let e = a.2 in never (cc)
 
 pub not-below : {P : Type 0} (n : Name) (p : TreePath) (d : Decision) (o l r : Node) → NotBoth l r → In (line (n ∷ p) d) (lines_of (settle o l r)) → P
 not-below n p d o l r nb h = let e = (in-line_of (n ∷ p) [] d (decide o l r) (rw (settle-single o l r nb) at h)).0 in never (cc)
+
+-- a line that is kept was on the list, and passes the test
+pub in_kept : (f : Line → Bool) (x : Line) (xs : Lines) → In x (keep f xs) → (f x ≡ true) × In x xs
+unfolding In keep
+in_kept f x [] h = absurd h
+in_kept f x (y ∷ ys) h = go (f y) refl (in_kept f x ys) h
+  where
+    go : (w : Bool) → f y ≡ w → (In x (keep f ys) → (f x ≡ true) × In x ys) → In x (keep_if w y (keep f ys)) → (f x ≡ true) × ((x ≡ y) ⊎ In x ys)
+    go true e ih (inl q) = (rw q e, inl q)
+    go true e ih (inr i) = let k = ih i in (k.0, inr k.1)
+    go false e ih i = let k = ih i in (k.0, inr k.1)
 
 abbrev pub without : TreePath → Lines → Lines
 without p = keep (elsewhere p)

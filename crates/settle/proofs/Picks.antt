@@ -1,6 +1,6 @@
 -- What is asked of a pick: it takes one of the three nodes, what both sides hold where they agree, and what is given at a
 -- move. The three picks of a run do, each with the node that it keeps at a clash.
-use mathlib.Core.List.{[], ◌∷◌}
+use mathlib.Core.List.{◌∷◌}
 use mathlib.Core.Logic.{◌⊎◌, inl, inr}
 use mathlib.Core.Path.{◌≡◌, refl, subst, sym}
 use Rattle.tree.specs.Name.{Name}
@@ -61,10 +61,10 @@ to-right left p o l r = refl
 to-right right p o l r = refl
 to-right archive p o l r = refl
 
-pub to-clash : (s : Result) (o l r : Node) → to s [] clash o l r ≡ kept s o l r
-to-clash left o l r = refl
-to-clash right o l r = refl
-to-clash archive o l r = refl
+pub to-clash : (s : Result) (p : TreePath) (o l r : Node) → to s p clash o l r ≡ kept s o l r
+to-clash left p o l r = refl
+to-clash right p o l r = refl
+to-clash archive p o l r = refl
 
 chooses : (s : Result) (p : TreePath) (d : Decision) (o l r : Node) → OneOf (to s p d o l r) o l r
 chooses left p agreed o l r = inr (inl refl)

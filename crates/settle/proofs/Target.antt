@@ -66,7 +66,7 @@ module _ (s : Result) where
     where
       go : (a : Bool) → same_node l r ≡ a → to s [] (rule a false false) o l r ≡ kept s o l r
       go true e = absurd (n (ap top (same_node-eq l r e)))
-      go false e = to-clash s o l r
+      go false e = to-clash s [] o l r
 
   -- SOUND
   abbrev Meets : Node → Node → Node → Type 0
@@ -113,7 +113,7 @@ module _ (s : Result) where
           ∙ is (sym ((settles s).right [] o l r))
       go false false false ea eb ec m =
           m.clashing (not-clean o l so sl eb) (not-clean o r so sr ec) (λ h. let k = same_node-true l r (top-same l r nb h) in never (cc)) p
-          ∙ is (sym (to-clash s o l r))
+          ∙ is (sym (to-clash s [] o l r))
 
   wanted-child : (o : Node) (l r : Forest) (S : PathMap) (n : Name) → Wanted o (folder l) (folder r) S
       → Wanted (find n (kids o)) (find n l) (find n r) (beneath S n)

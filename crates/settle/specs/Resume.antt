@@ -6,6 +6,7 @@ use Rattle.tree.specs.Put.{put}
 use Rattle.settle.specs.Decision.{Decision, Decision.agreed, Decision.left_gets, Decision.right_gets, Decision.clash}
 use Rattle.settle.specs.Plan.{plan}
 use Rattle.settle.specs.Results.{new_left, new_right, new_archive, Line, Line.line, Lines, list, Outcome, outcome}
+use Rattle.settle.specs.Begins.{places_in, places, Begins}
 
 -- the two sides while moves are carried out
 pub record Sides : Type 0 where
@@ -79,6 +80,13 @@ Resumes ms o l r =
     let s : Sides = after ms (record { left = l; right = r }) in
     outcome o s.left s.right ≡ with_lines (minus ms (list (plan o l r))) (outcome o l r)
 
+-- and the lines that are left have the places that they had
+abbrev pub ResumesPlaces : Lines → Forest → Forest → Forest → Type 0
+ResumesPlaces ms o l r =
+    let s : Sides = after ms (record { left = l; right = r }) in
+    let xs : Lines = minus ms (list (plan o l r)) in
+    places o s.left s.right xs ≡ places o l r xs
+
 abbrev pub is_clash : Line → Bool
 is_clash (line p agreed) = false
 is_clash (line p left_gets) = false
@@ -95,3 +103,15 @@ Finishes ms o l r =
 abbrev pub Closes : Forest → Forest → Forest → Type 0
 Closes o l r =
     outcome (new_archive o l r) (new_left o l r) (new_right o l r) ≡ with_lines (keep is_clash (list (plan o l r))) (outcome o l r)
+
+-- and the clashes have the places that they had
+abbrev pub ClosesPlaces : Forest → Forest → Forest → Type 0
+ClosesPlaces o l r =
+    let xs : Lines = keep is_clash (list (plan o l r)) in
+    places (new_archive o l r) (new_left o l r) (new_right o l r) xs ≡ places o l r xs
+
+-- a listed clash begins at its two places
+abbrev pub ClashesBegin : Forest → Forest → Forest → Type 0
+ClashesBegin o l r =
+    (p : TreePath) → In (line p clash) (list (plan o l r))
+    → Begins o l p (places_in o l r (line p clash)).left × Begins o r p (places_in o l r (line p clash)).right
