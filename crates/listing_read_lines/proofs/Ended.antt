@@ -36,6 +36,8 @@ pub form-last : (t : List ℕ) → length t ≤ 65536 → (length t ≡ 0 → �
 form-last [] h n = absurd (n refl)
 form-last (b ∷ bs) h n = rw (le-leb (length (b ∷ bs)) 65536 h, any-default (b ∷ bs) (length (b ∷ bs) - 1) 0 10 (omega arith))
 
+pub ruleset form_rules = (form-long, form-empty, form-last)
+
 -- no row means no root
 module _ (s : Reader) where
   pub ends-rootless : s.count ≡ 0 → Ends s (Refused 12 0 0)

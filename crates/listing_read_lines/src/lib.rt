@@ -22,6 +22,7 @@ pub fn zero(t: &mut [u32])
 }
 
 // A text is not too long and, unless it is empty, ends in LF.
+#[tactic(auto, using(crate::proofs::Ended::form_rules))]
 pub fn has_form(text: &[u8]) -> bool
     ensures { result ≡ has_form text.now }
 {
