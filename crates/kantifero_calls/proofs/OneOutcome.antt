@@ -14,7 +14,7 @@ reconcile-one p o l r before a b c d t w a' b' c' d' t' w' C D = (
   C.archive-left ∙ sym D.archive-left,
   C.left-left ∙ sym D.left-left,
   C.right-left ∙ sym D.right-left,
-  C.List-left ∙ sym D.List-left,
+  C.list_left ∙ sym D.list_left,
   C.tally-left ∙ sym D.tally-left,
   C.answered ∙ sym D.answered,
 )

@@ -16,8 +16,8 @@ write_list-requires c = record { n_in_bounds = c.requires.n_in_bounds; plan_in_b
 pub returns : goal.returns
 returns c =
     record {
-      c = c.write_tree.ensures.words;
-      c = c.write_tree-2.ensures.words;
-      c = c.write_tree-3.ensures.words;
+      archive = c.write_tree.ensures.words;
+      left = c.write_tree-2.ensures.words;
+      right = c.write_tree-3.ensures.words;
       list = c.write_list.ensures.words;
     }

@@ -1,6 +1,6 @@
 -- `plan_text_put::put_entries` meets its contract: the entries from entry k on are left.
 use lib.ListN.{length}
-use Prim.Native.Nat.{◌-◌, ◌/◌, ◌^◌}
+use Prim.Native.Nat.{◌/◌, ◌^◌}
 use borrow.Author.Rules.{rules}
 use Rattle.listing_spell.proofs.Poured.{left-all, left_less, left-none}
 use Rattle.plan_text.proofs.Words.{entries-start, entries_next, entries-end}
