@@ -1,65 +1,104 @@
 -- `plan_lent::with_plan` meets its contract: the plan is long enough, the rooms are tried, and what is written is the outcome.
+use mathlib.Core.List.{List}
+use mathlib.Core.Path.{◌≡◌}
 use native.Mathlib.Omega.{arith}
+use lib.ListN.{length, get_or}
+use Prim.Native.Nat.{ℕ, ◌/◌}
+use mir.Val.{Fits}
+use mir.Syntax.{w32}
+use Rattle.tree.specs.declared.Profile.{Profile}
+use Rattle.table_row.specs.Keyed.{keyed}
+use Rattle.table_rules.specs.Keyed.{Passes}
+use Rattle.table_rules.specs.declared.Answer.{Answer}
 use Rattle.table_rules.proofs.Passed.{passed-some}
-use Rattle.plan_run.specs.Run.{lent}
+use Rattle.plan.specs.Settle.{settled}
+use Rattle.plan.specs.Writes.{Fills}
+use Rattle.plan_results.specs.Decisions.{decisions}
+use Rattle.plan_run.specs.declared.Counts.{Counts}
+use Rattle.plan_run.specs.declared.Reconciled.{Reconciled}
+use Rattle.plan_run.specs.Run.{Lent, lent, rooms_due}
+use Rattle.plan_run.specs.Answer.{answer_with}
+use Rattle.plan_run.specs.Steps.{planned_counts}
 use Rattle.plan_run.proofs.Planned.{Sound, three, settled-fits, items-fit, items-most}
 use Rattle.plan_run.proofs.Steps.{Tried, spacious, entries, settles-accepted, settles-refused}
 use Rattle.plan_lent.proofs.with_plan.Goals as goal
-use Rattle.plan_lent.proofs.with_plan.Goals.{After-answer_with-answer, After-settle_in-n, After-shared_slice_known-3-1, Start}
 
-module _ (c : After-shared_slice_known-3-1) where
-  abbrev s : Start
-  s = c
-  o-sound : Sound s.args.profile s.args.o.now
-  o-sound = record { passes = s.pre.0.0; small = c.shared_slice_known-1.given }
-  l-sound : Sound s.args.profile s.args.l.now
-  l-sound = record { passes = s.pre.0.1; small = c.shared_slice_known-2-1.given }
-  r-sound : Sound s.args.profile s.args.r.now
-  r-sound = record { passes = s.pre.0.2; small = c.shared_slice_known-3-1.given }
+-- the words of a table are 32-bit words
+abbrev InWords : List ℕ → Type 0
+InWords w = (k : ℕ) → Fits w32 (get_or w k 0)
 
-abbrev start : After-settle_in-n → After-shared_slice_known-3-1
-start w = w.before.before.before.before.before.before.before
+module _ {p : Profile} {o l r : List ℕ} where
+  -- the three tables, of which all pass
+  sound : Passes p o × Passes p l × Passes p r → InWords o → InWords l → InWords r → Sound p o × Sound p l × Sound p r
+  sound h x y z = (
+    record { passes = h.0; small = x },
+    record { passes = h.1; small = y },
+    record { passes = h.2; small = z },
+  )
 
--- the rooms are tried
-tried : (c : After-answer_with-answer) → (Tried c.args.profile c.args.o.now c.args.l.now c.args.r.now c.args.plan.now c.settle_in-n.new.plan c.settle_in-n.result
-    (lent c.args.archive.now c.args.left.now c.args.right.now c.args.list.now c.args.old)
-    c.counts_of-c.result c.rooms_due-due.result c.answer_with-answer.result)
-tried c = record {
-  o-sound = o-sound (start c);
-  l-sound = l-sound (start c);
-  r-sound = r-sound (start c);
-  planned = c.settle_in-n.ensures;
-  counted = c.counts_of-c.ensures;
-  due-is = c.rooms_due-due.ensures;
-  answer-is = c.answer_with-answer.ensures;
-}
+  -- the rooms are tried
+  tried : {s e : List ℕ} {q : ℕ} {c : Counts} {due : Answer} {a : Reconciled} (b : Lent) → Sound p o × Sound p l × Sound p r
+      → Fills s (settled (keyed p o) (keyed p l) (keyed p r)) e q → c ≡ planned_counts o l r (decisions (q / 4) e)
+      → due ≡ rooms_due c (length b.archive) (length b.left) (length b.right) (length b.list) → a ≡ answer_with due c → Tried p o l r s e q b c due a
+  tried b h f g d i = record {
+    o-sound = h.0;
+    l-sound = h.1;
+    r-sound = h.2;
+    planned = f;
+    counted = g;
+    due-is = d;
+    answer-is = i;
+  }
 
 pub settle_in-n-requires : goal.settle_in-n-requires
 settle_in-n-requires c =
-    let p = c.requires in
-    (three _ _ _ _ p.0.0 p.0.1 p.0.2, omega (arith, settled-fits _ _ _ _ (o-sound c) (l-sound c) (r-sound c), p.1))
+    let p = c.requires.passes in
+    let h = sound p c.type_inv.o c.type_inv.l c.type_inv.r in
+    record { three = three _ _ _ _ p.0 p.1 p.2; r_in_bounds = omega (arith, settled-fits _ _ _ _ h.0 h.1 h.2, c.requires.r_in_bounds) }
 
 pub counts_of-c-requires : goal.counts_of-c-requires
 counts_of-c-requires c =
-    let w = start c in
-    let p = w.before.before.before.pre in
-    let n = items-fit _ _ _ _ (o-sound w) (l-sound w) (r-sound w) _ _ _ c.settle_in-n.ensures in
-    let m = items-most _ _ _ _ (o-sound w) (l-sound w) (r-sound w) _ _ _ c.settle_in-n.ensures in
-    (three _ _ _ _ p.0.0 p.0.1 p.0.2, (passed-some _ _ p.0.1, (omega (arith, c.settle_in-n.auto.plan, p.1), omega arith)))
+    let p = c.requires.passes in
+    let h = sound p c.type_inv.o c.type_inv.l c.type_inv.r in
+    let n = items-fit _ _ _ _ h.0 h.1 h.2 _ _ _ c.settle_in-n.ensures in
+    let m = items-most _ _ _ _ h.0 h.1 h.2 _ _ _ c.settle_in-n.ensures in
+    record {
+      three = three _ _ _ _ p.0 p.1 p.2;
+      in_bounds = passed-some _ _ p.1;
+      n_in_bounds = (omega (arith, c.settle_in-n.auto.plan, c.requires.r_in_bounds), omega arith);
+    }
 
 pub write_results-requires : goal.write_results-requires
 write_results-requires c =
-    let p = c.requires in
-    let n = items-fit _ _ _ _ (tried c).o-sound (tried c).l-sound (tried c).r-sound _ _ _ c.settle_in-n.ensures in
-    (three _ _ _ _ p.0.0 p.0.1 p.0.2, (passed-some _ _ p.0.1, (omega (arith, c.settle_in-n.auto.plan, p.1), spacious (tried c) _ c.in-Accepted.is)))
+    let a = c.args in
+    let p = c.requires.passes in
+    let h = sound p c.type_inv.o c.type_inv.l c.type_inv.r in
+    let n = items-fit _ _ _ _ h.0 h.1 h.2 _ _ _ c.settle_in-n.ensures in
+    let t = tried (lent a.archive.now a.left.now a.right.now a.list.now a.old) h c.settle_in-n.ensures c.counts_of-c.ensures c.rooms_due-due.ensures c.answer_with-answer.ensures in
+    record {
+      three = three _ _ _ _ p.0 p.1 p.2;
+      in_bounds = passed-some _ _ p.1;
+      n_in_bounds = omega (arith, c.settle_in-n.auto.plan, c.requires.r_in_bounds);
+      spacious = spacious t _ c.in-Accepted.is;
+    }
 
 pub counts-tally-requires : goal.counts-tally-requires
 counts-tally-requires c =
-    entries (tried c) _ c.in-Accepted.is c.write_results.new.list c.write_results.auto.list
+    let a = c.args in
+    let h = sound c.requires.passes c.type_inv.o c.type_inv.l c.type_inv.r in
+    let t = tried (lent a.archive.now a.left.now a.right.now a.list.now a.old) h c.settle_in-n.ensures c.counts_of-c.ensures c.rooms_due-due.ensures c.answer_with-answer.ensures in
+    entries t _ c.in-Accepted.is c.write_results.new.list c.write_results.auto.list
 
 pub returns-in-Accepted : goal.returns-in-Accepted
 returns-in-Accepted c =
-    settles-accepted (tried c) _ c.in-Accepted.is _ _ _ _ _ c.write_results.ensures c.counts-tally.ensures
+    let a = c.args in
+    let h = sound c.requires.passes c.type_inv.o c.type_inv.l c.type_inv.r in
+    let t = tried (lent a.archive.now a.left.now a.right.now a.list.now a.old) h c.settle_in-n.ensures c.counts_of-c.ensures c.rooms_due-due.ensures c.answer_with-answer.ensures in
+    settles-accepted t _ c.in-Accepted.is _ _ _ _ _ c.write_results.ensures c.counts-tally.ensures
 
 pub returns-in-Refused : goal.returns-in-Refused
-returns-in-Refused c = settles-refused (tried c) _ _ _ c.in-Refused.is
+returns-in-Refused c =
+    let a = c.args in
+    let h = sound c.requires.passes c.type_inv.o c.type_inv.l c.type_inv.r in
+    let t = tried (lent a.archive.now a.left.now a.right.now a.list.now a.old) h c.settle_in-n.ensures c.counts_of-c.ensures c.rooms_due-due.ensures c.answer_with-answer.ensures in
+    settles-refused t _ _ _ c.in-Refused.is
