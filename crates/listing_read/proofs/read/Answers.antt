@@ -1,6 +1,7 @@
 -- `read` meets its contract: zeroed, then the form, then the lines; zeroed again after a refusal.
 use mathlib.Core.Path.{sym, ap, ◌∙◌}
 use lib.ListN.{length}
+use borrow.Author.Rules.{rules}
 use Rattle.listing_reader.specs.State.{zeroed}
 use Rattle.listing_read_lines.proofs.Answered.{read-accepted, read-formless, read-refused, zeros-all, zeros-long}
 use Rattle.listing_read.proofs.read.Goals as goal
@@ -19,4 +20,4 @@ returns-in-Refused c =
     read-refused _ _ _ (sym c.has_form.ensures ∙ c.if-has_form.true) _ same _ _ ran.ensures _ _ _ _ c.in-Refused.is (c.zero-in-Refused.ensures ∙ ap zeroed (ran.auto.t ∙ same))
 
 pub returns : goal.returns
-returns c = read-formless _ _ _ _ (sym c.has_form.ensures ∙ c.if-has_form.false) c.zero.ensures
+returns c = read-formless _ _ _ _ (sym c.has_form.ensures ∙ c.if-has_form.false) (search rules)
