@@ -1,7 +1,7 @@
 //! Runs the built program syncplan in folders of its own, in both profiles, and looks at all that it
 //! prints.
 //!
-//! The program is target/bin/syncplan of the repository, which `rt check syncplan` writes. The
+//! The program is target/bin/syncplan of the repository, which `tools/build syncplan` writes. The
 //! variable SYNCPLAN names another one, and SYNCPLAN_RUNNER an emulator to run it by, where this is not
 //! its processor.
 #![forbid(unsafe_code)]
@@ -49,7 +49,7 @@ pub fn program() -> PathBuf {
     let given = env::var_os("SYNCPLAN").map_or_else(built, PathBuf::from);
     let missing = |_| -> PathBuf {
         panic!(
-            "{} is missing: run `rt check syncplan` first, or name the program in SYNCPLAN",
+            "{} is missing: run `tools/build syncplan` first, or name the program in SYNCPLAN",
             given.display()
         )
     };

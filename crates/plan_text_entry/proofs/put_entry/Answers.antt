@@ -13,6 +13,6 @@ returns c =
     rw (entry-words a.left.now a.right.now a.list.now a.k)
     (left-last (2 ^ 21)
     (left_less _
-    (left_less _ (left_less _ (left-all _ _ _) c.put_mark-p.ensures) c.out-2-1.ensures)
+    (left_less _ (left_less _ (left-all _ _ _) c.put_mark-p.ensures) c.put_all-q.ensures)
     (rw (c.wide-i.ensures.0, c.wide-j.ensures.0) at c.put_side-s.ensures))
     c.put_all.ensures (search rules))

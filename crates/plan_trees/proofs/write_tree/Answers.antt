@@ -1,7 +1,6 @@
 -- `write_tree` writes a new tree.
 use mathlib.Core.Path.{◌∙◌}
 use native.Mathlib.Omega.{arith}
-use Prim.Native.Nat.{◌-◌}
 use borrow.Author.Rules.{rules}
 use Rattle.plan.proofs.Writes.{then, copied, filled}
 use Rattle.plan_results.specs.Decisions.{decisions}
@@ -13,7 +12,7 @@ use Rattle.plan_trees.proofs.write_tree.Goals as goal
 pub copy_words-at-requires : goal.copy_words-at-requires
 copy_words-at-requires c =
     let a = c.args in
-    omega (arith, tree-split a.tree a.o.now a.l.now a.r.now (decisions a.n a.plan.now), c.requires.in_bounds.1.1)
+    omega (arith, tree-split a.tree a.o.now a.l.now a.r.now (decisions a.n a.plan.now), c.requires.plan_in_bounds)
 
 pub loop-k-init : goal.loop-k-init
 loop-k-init c = write-start
@@ -24,15 +23,15 @@ write_piece-at-requires c =
     let a = c.args in
     let y = decisions a.n a.plan.now in
     let q = c.copy_words-at in
-    let m = tree-room a.tree a.o.now a.l.now a.r.now y c.requires.in_bounds.1.1 q.ensures.0 q.auto.1.0 in
-    (c.requires.0, rw c.decode-d.ensures (room c.loop-k.invariant (search rules) m))
+    let m = tree-room a.tree a.o.now a.l.now a.r.now y c.requires.plan_in_bounds q.ensures.0 q.auto.dst in
+    record { three = c.requires.three; d_in_bounds = rw c.decode-d.ensures (room c.loop-k.invariant (search rules) m) }
 
 pub loop-k-preserved : goal.loop-k-preserved
 loop-k-preserved c =
     let a = c.args in
     let y = decisions a.n a.plan.now in
     let q = c.copy_words-at in
-    let m = tree-room a.tree a.o.now a.l.now a.r.now y c.requires.in_bounds.1.1 q.ensures.0 q.auto.1.0 in
+    let m = tree-room a.tree a.o.now a.l.now a.r.now y c.requires.plan_in_bounds q.ensures.0 q.auto.dst in
     let e = rw c.decode-d.ensures at c.write_piece-at.ensures in
     write-next c.loop-k.invariant (search rules) m c.write_piece-at.auto.out e
 

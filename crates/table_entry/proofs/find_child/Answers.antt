@@ -48,12 +48,13 @@ rows-preserved c =
     let d = get_or w (20 * a.f) 0 in
     let next : seek p d i (drop i (rows w)) ≡ seek p d (i + 1) (drop (i + 1) (rows w)) =
     elim c.if-e-d-eq1.branch [
-      then-e-d-eq1+else-k-eq8+then-t-i x ↦
-        let k = x.words.k in
-        let k8 : k < 8 = omega (arith, x.words.invariant.0, x.if-k-eq8.false) in
-        seek-other p w d i (search rules) x.if-e-d-eq1.true
-        (same_words-false a.name (name_of w i) (λ e. x.if-t-i.true (sym (name-word w i k k8) ∙ sym (ap (λ (v : List ℕ). get_or v k 0) e))))
-      | else-e-d-eq1 x ↦ seek-deep p w d i (search rules) (search rules) x.if-e-d-eq1.false ] in
+      | then-e-d-eq1+else-k-eq8+then-t-i x ↦
+          let k = x.words.k in
+          let k8 : k < 8 = omega (arith, x.words.invariant.0, x.if-k-eq8.false) in
+          seek-other p w d i (search rules) x.if-e-d-eq1.true
+          (same_words-false a.name (name_of w i) (λ e. x.if-t-i.true (sym (name-word w i k k8) ∙ sym (ap (λ (v : List ℕ). get_or v k 0) e))))
+      | else-e-d-eq1 x ↦ seek-deep p w d i (search rules) (search rules) x.if-e-d-eq1.false
+    ] in
     (search rules, c.rows.invariant.1 ∙ next)
 
 pub returns-after-rows : goal.returns-after-rows

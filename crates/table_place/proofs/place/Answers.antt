@@ -32,8 +32,9 @@ loop-i-preserved c =
     let d = get_or w (20 * a.f) 0 in
     let next : seek p d i (drop i (rows w)) ≡ seek p d (i + 1) (drop (i + 1) (rows w)) =
     elim c.else-e-d-eq1.branch [
-      else-e-d-eq1-via-then-e-d-eq1+else-up_to x ↦ seek-other p w d i (search rules) x.if-e-d-eq1.true (sym x.up_to.ensures ∙ x.if-up_to.false)
-      | else-e-d-eq1-via-else-e-d-eq1 x ↦ seek-deep p w d i (search rules) (search rules) x.if-e-d-eq1.false ] in
+      | else-e-d-eq1-via-then-e-d-eq1+else-up_to x ↦ seek-other p w d i (search rules) x.if-e-d-eq1.true (sym x.up_to.ensures ∙ x.if-up_to.false)
+      | else-e-d-eq1-via-else-e-d-eq1 x ↦ seek-deep p w d i (search rules) (search rules) x.if-e-d-eq1.false
+    ] in
     (search rules, c.loop-i.invariant.1 ∙ next)
 
 pub returns : goal.returns

@@ -1,11 +1,7 @@
 -- `with_default` meets its contract: the default is another, and nothing else.
 use mathlib.Core.Path.{refl}
 use Rattle.listing_reader.proofs.State.{set-default}
-use Rattle.listing_reader.proofs.with_default.Statement.{statement}
-use Rattle.listing_reader.proofs.with_default.Tie as tie
+use Rattle.listing_reader.proofs.with_default.Goals as goal
 
-returns : tie.Need-returns
+pub returns : goal.returns
 returns c = record { does = λ p w t h. set-default p w _ _ _ t refl refl refl refl refl h }
-
-pub with-default-spec : {M : Type 1} → statement M
-with-default-spec = tie.close (tie.spec returns)
