@@ -9,4 +9,4 @@ pub returns : goal.returns
 returns c =
     let s = c.args in
     let e = rw c.carried-part.ensures at c.part_words-words.ensures in
-    rw (← c.profile_of.ensures) (record { answered = e; part = rw e (carried-part _ s.left.now s.right.now s.kind s.left-row s.right-row) })
+    rw (← c.profile_of.ensures) (record { answered = e; part = rw e (carried-part _ s.left.now s.right.now s.kind s.left_row s.right_row) })

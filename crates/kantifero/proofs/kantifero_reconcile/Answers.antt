@@ -6,7 +6,7 @@ use Rattle.kantifero.proofs.kantifero_reconcile.Goals as goal
 pub reconciled_words-words-requires : goal.reconciled_words-words-requires
 reconciled_words-words-requires c =
     rw c.reconcile_plain-ran.ensures.answered
-    (run-narrow _ _ _ _ _ c.shared_slice_known-1.given c.shared_slice_known-2-1.given c.shared_slice_known-3-1.given)
+    (run-narrow _ _ _ _ _ c.type_inv.archive c.type_inv.left c.type_inv.right)
 
 pub returns : goal.returns
 returns c =
