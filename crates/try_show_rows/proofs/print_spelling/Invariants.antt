@@ -1,4 +1,4 @@
-use Rattle.std.proofs.Common.{length, ◌-◌, ◌/◌, ◌≡◌, ◌≤◌, ◌<◌}
+use Rattle.std.proofs.Common.{length, ◌-◌, ◌≡◌, ◌≤◌}
 use Rattle.try_show_rows.proofs.print_spelling.Given as goal
 
 abbrev pub invariant-loop-k : goal.invariant-loop-k
