@@ -1,4 +1,4 @@
-use Rattle.std.proofs.Common.{length, ◌-◌, ◌/◌, ◌≡◌, ◌≤◌, ◌<◌}
+use Rattle.std.proofs.Common.{length, ◌-◌, ◌/◌, ◌≤◌}
 use Rattle.try_read_rows.proofs.print_rows.Given as goal
 
 abbrev pub invariant-loop-i : goal.invariant-loop-i
