@@ -56,6 +56,7 @@ pub fn spell_row(table: &[u32], found: Found, src: &[u32], res: &mut [u32], at: 
 {
     match found {
         Found::At(i) => {
+            prove!(i < table.len() / 20);
             let a = 20 * i + 2;
             let e = a + 8;
             put_named(src, &table[a..e], res, at);

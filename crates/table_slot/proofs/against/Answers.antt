@@ -1,8 +1,8 @@
 -- `against` meets its contract: a row by its depth, an entry by its name.
-use mathlib.Core.Path.{◌≡◌, sym, ap, ◌∙◌}
+use mathlib.Core.Path.{◌≡◌, sym, ap}
 use native.Mathlib.Omega.{arith}
+use borrow.Author.Rules.{rules}
 use Prim.Native.Nat.{suc, ◌<◌}
-use Rattle.tree.specs.Name.{cmp}
 use Rattle.tree.specs.Key.{key}
 use Rattle.table_row.specs.Table.{row_at, depth, name}
 use Rattle.table_row.specs.Order.{ordered}
@@ -24,7 +24,7 @@ returns-then-e-d-eq1 c =
     let k = row-has-key a.profile a.t.now a.i c.requires in
     let e : depth r ≡ suc a.d = rw (k.depth_is, depth-at) (let z = c.if-e-d-eq1.true in omega arith) in
     let n : key a.profile (name_part a.t.now a.i) ≡ name r = rw (name-part a.t.now a.i) (sym k.name-is) in
-    c.compare_keys.ensures ∙ ap ordered (ap (cmp (key a.profile a.name)) n ∙ sym (against-entry a.d (key a.profile a.name) r e))
+    rw (against-entry a.d (key a.profile a.name) r e, ← n) (search rules)
 
 pub returns : goal.returns
 returns c =
