@@ -9,6 +9,3 @@ use Rattle.table_path.proofs.key_names.Given as goal
 
 abbrev pub invariant-loop-i : goal.invariant-loop-i
 invariant-loop-i l = (l.i ≤ 16) × (length l.names ≡ 16) × (length l.keys ≡ 16) × ((k : ℕ) → k < l.i → get_or l.keys k [] ≡ key Folded (get_or l.names k []))
-
-abbrev pub decreases-loop-i : goal.decreases-loop-i
-decreases-loop-i l = 16 - l.i

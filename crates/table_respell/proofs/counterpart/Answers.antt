@@ -4,10 +4,10 @@ use Rattle.table_follow.proofs.Follow.{inside-at}
 use Rattle.table_respell.proofs.counterpart.Goals as goal
 
 pub find_child-requires : goal.find_child-requires
-find_child-requires c = inside-at _ _ _ c.in-At.is c.requires
+find_child-requires c = inside-at _ _ _ c.in-Some.is c.requires
 
-pub returns-in-At : goal.returns-in-At
-returns-in-At c = rw c.in-At.is c.find_child.ensures
+pub returns-in-Some : goal.returns-in-Some
+returns-in-Some c = rw c.in-Some.is c.find_child.ensures
 
-pub returns-in-Nothing : goal.returns-in-Nothing
-returns-in-Nothing c = rw c.in-Nothing.is (record { answer = refl; inside = tt })
+pub returns-in-None : goal.returns-in-None
+returns-in-None c = rw c.in-None.is (record { answer = refl; inside = tt })
