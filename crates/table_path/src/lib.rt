@@ -46,5 +46,9 @@ pub fn path_ok(names: [[u32; 8]; 16], depth: usize) -> bool
 pub fn key_names(names: [[u32; 8]; 16]) -> [[u32; 8]; 16]
     ensures { result ≡ map (key Folded) names }
 {
-    names.map(|name| table_keys::key_name(tree::Profile::Folded, name))
+    names.map(
+        |name: [u32; 8]| -> [u32; 8]
+            ensures { result ≡ key Folded name }
+        { table_keys::key_name(tree::Profile::Folded, name) },
+    )
 }

@@ -22,7 +22,7 @@ use Rattle.table_respell.specs.Respell.{counterpart, spelled, spelled_rows, resp
 use Rattle.table_respell.proofs.Node.{There, Opens, counter, spelled-file, spelled-folder}
 
 -- a row of depth suc d called n
-module _ (p : Profile) (w v : List ℕ) (d : ℕ) (n : Name) (opened : List Option ℕ) where
+module _ (p : Profile) (w v : List ℕ) (d : ℕ) (n : Name) (opened : List (Option ℕ)) where
   abbrev noted : Option ℕ
   noted = counterpart v (get_or opened d None) (key p n)
 
@@ -44,13 +44,13 @@ joined r rows below mid gs rest e q = ap (λ (z : List Row). r ∷ z) (e ∙ ap 
 
 module _ (p : Profile) (w v : List ℕ) where
   -- rows rs of depth suc d and more, before the rows qs, are spelled as gs
-  record Goes (d : ℕ) (opened : List Option ℕ) (rs gs qs : List Row) : Type 0 where
-    after : List Option ℕ
+  record Goes (d : ℕ) (opened : List (Option ℕ)) (rs gs qs : List Row) : Type 0 where
+    after : List (Option ℕ)
     size : length after ≡ 17
     kept : (i : ℕ) → i ≤ d → get_or after i None ≡ get_or opened i None
     gives : spelled_rows p w v opened (rs ++ qs) ≡ gs ++ spelled_rows p w v after qs
 
-  siblings : (j : ℕ) (k : Forest) → Within NameRule ContentRule j k → (d : ℕ) (x : Node) (opened : List Option ℕ) → d + j ≤ 16 → length opened ≡ 17
+  siblings : (j : ℕ) (k : Forest) → Within NameRule ContentRule j k → (d : ℕ) (x : Node) (opened : List (Option ℕ)) → d + j ≤ 16 → length opened ≡ 17
       → Opens p w v d x (get_or opened d None) → (qs : List Row) → Goes d opened (rows_of (suc d) k) (rows_of (suc d) (respell p (kids x) k)) qs
   unfolding Within rows_of respell
   siblings j end W d x opened h l o qs = record { after = opened; size = l; kept = λ i z. refl; gives = refl }

@@ -75,12 +75,6 @@ length-spelled w (Some i) r g h =
     length-append (take 2 r) (name (row_at w i) ++ drop 10 r) ∙ rw (length-append (name (row_at w i)) (drop 10 r), length-take, length-drop) (omega arith)
 length-spelled w None r g h = h
 
--- within a list, what is read past its end does not matter
-pub get_d_any : {A : Type 0} (l : List A) (i : ℕ) (a b : A) → i < length l → get_or l i a ≡ get_or l i b
-get_d_any [] i a b h = absurd (omega arith)
-get_d_any (x ∷ l) zero a b h = refl
-get_d_any (x ∷ l) (suc i) a b h = get_d_any l i a b (le_of_suc-le-suc h)
-
 shallow-head : (words : List ℕ) (i : ℕ) → i < length words / 20 → Shallow (drop i (rows words)) → (1 ≤ depth (row_at words i)) × (depth (row_at words i) ≤ 16) × Shallow (drop (i + 1) (rows words))
 unfolding Shallow
 shallow-head words i h s = rw (add-one i) (rw (rows-cons words i h) at s)
@@ -100,10 +94,10 @@ deep words i d h s e =
 
 -- the loop: what is written, and then the rows from row i on, are all the rows
 module _ (p : Profile) (w v words : List ℕ) where
-  abbrev rest : List Option ℕ → ℕ → List ℕ
+  abbrev rest : List (Option ℕ) → ℕ → List ℕ
   rest opened i = flat (spelled_rows p w v opened (drop i (rows words)))
 
-  module _ (opened : List Option ℕ) (i : ℕ) (h : i < length words / 20) where
+  module _ (opened : List (Option ℕ)) (i : ℕ) (h : i < length words / 20) where
     abbrev r : Row
     r = row_at words i
 
@@ -124,12 +118,12 @@ module _ (p : Profile) (w v words : List ℕ) where
         let e : rest opened i ≡ spelled w c r ++ rest (set opened d c) (i + 1) = rw (C, D) rest-cons in
         rw (N, z) (written-append now (spelled w c r) (rest (set opened d c) (i + 1)) (place + 20 * i) k ∙ rw (← e) q)
 
-  pub rest-none : (opened : List Option ℕ) (i : ℕ) → length words / 20 ≤ i → rest opened i ≡ []
+  pub rest-none : (opened : List (Option ℕ)) (i : ℕ) → length words / 20 ≤ i → rest opened i ≡ []
   unfolding spelled_rows flat
   rest-none opened i h = rw (rows-nil words i h)
 
 -- rows that are noted are the table's
-pub inside-set : (v : List ℕ) (opened : List Option ℕ) (d : ℕ) (c : Option ℕ) → d < length opened → Inside v c → ((k : ℕ) → Inside v (get_or opened k None)) → (k : ℕ)
+pub inside-set : (v : List ℕ) (opened : List (Option ℕ)) (d : ℕ) (c : Option ℕ) → d < length opened → Inside v c → ((k : ℕ) → Inside v (get_or opened k None)) → (k : ℕ)
     → Inside v (get_or (set opened d c) k None)
 inside-set v opened d c h g a k = go (eqb k d) refl
   where

@@ -19,7 +19,7 @@ spelled w (Some i) r = called (name (row_at w i)) r
 spelled w None r = r
 
 -- rows one after the other, w the table and v its table of keys; opened has, at each depth, the counterpart of the last row there
-unfoldable pub spelled_rows : Profile → List ℕ → List ℕ → List Option ℕ → List Row → List Row
+unfoldable pub spelled_rows : Profile → List ℕ → List ℕ → List (Option ℕ) → List Row → List Row
 spelled_rows p w v opened [] = []
 spelled_rows p w v opened (r ∷ rs) =
     let c : Option ℕ = counterpart v (get_or opened (depth r - 1) None) (key p (name r)) in

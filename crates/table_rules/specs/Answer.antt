@@ -1,5 +1,5 @@
 -- The answer of a call that has one place: its number, its side and its place.
-use Rattle.std.specs.Prelude.{◌≡◌, Bool, true, false, eqb, ℕ, Result, Ok, Err}
+use Rattle.std.specs.Prelude.{◌≡◌, Bool, eqb, ℕ, Result, Ok, Err, is_ok}
 use Rattle.table_rules.specs.declared.Refusal.{Refusal}
 
 -- accepted with a place, or refused
@@ -22,8 +22,7 @@ place_of (Ok place) = place
 place_of (Err r) = r.place
 
 abbrev pub is_accepted : Answer → Bool
-is_accepted (Ok place) = true
-is_accepted (Err r) = false
+is_accepted a = is_ok a
 
 -- an answer is the number, side and place that are due; it is an acceptance exactly where the number is 0
 pub record Says (answer : Answer) (number side place : ℕ) : Type 0 where

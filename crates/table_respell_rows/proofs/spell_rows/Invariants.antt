@@ -1,4 +1,5 @@
 -- `table_respell_rows::spell_rows` meets its contract. The loop's invariant: what is written, and then the rows from row i on by the
+-- counterparts that are noted, are all the rows.
 use Rattle.std.proofs.Common.{None}
 use mathlib.Core.Path.{◌≡◌}
 use lib.ListN.{length, drop, get_or}
