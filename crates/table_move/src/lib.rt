@@ -24,7 +24,7 @@ fn carry_out(
 {
     match profile {
         Profile::Exact => {
-            let span = table_spans::span_at(source, names, depth);
+            let span = table_spans::span_at(source, &names[..depth]);
             table_pieces::carry_in(profile, target, target, source, span, names, depth, res)
         }
         Profile::Folded => table_move_keyed::carry_folded(
