@@ -8,6 +8,3 @@ use Rattle.listing_values.proofs.hex_values.Given as goal
 
 abbrev pub invariant-loop-i : goal.invariant-loop-i
 invariant-loop-i l = Filled (map digit_value l.value) l.digits (map digit_value (drop l.i l.value)) 64 l.i
-
-abbrev pub decreases-loop-i : goal.decreases-loop-i
-decreases-loop-i l = 64 - l.i

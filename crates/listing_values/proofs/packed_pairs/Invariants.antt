@@ -7,6 +7,3 @@ use Rattle.listing_values.proofs.packed_pairs.Given as goal
 
 abbrev pub invariant-loop-i : goal.invariant-loop-i
 invariant-loop-i l = Filled (pairs l.digits) l.bytes (pairs (drop (2 * l.i) l.digits)) 32 l.i
-
-abbrev pub decreases-loop-i : goal.decreases-loop-i
-decreases-loop-i l = 32 - l.i
