@@ -4,7 +4,7 @@ use mathlib.Core.List.{[], ◌∷◌}
 use mathlib.Core.Bool.{Bool, true, false, cond, ◌&&◌}
 use native.Mathlib.Omega.{arith}
 use Prim.Native.Nat.{ℕ}
-use Prim.Native.Nat.{◌≤◌}
+use Prim.Native.Nat.{◌≤◌, ◌<◌}
 use Rattle.tree.proofs.Never.{never}
 use Rattle.tree.specs.Forest.{Forest.end, Node, Node.absent, Node.file, Node.folder}
 use Rattle.listing.specs.Bytes.{text}
@@ -67,3 +67,10 @@ root-folder is_dir e = refl
 root-folder is_file e = never (cc)
 root-folder is_other e = never (cc)
 root-folder twice e = never (cc)
+
+pub root-fault : (t : Said) (n : ℕ) → Err n ≡ root_due (root_as t) → (root_as t ≡ faulty n) × (0 < n)
+root-fault none n e = let q : n ≡ 10 = cc in rw q (refl, omega arith)
+root-fault is_dir n e = never (cc)
+root-fault is_file n e = let q : n ≡ 10 = cc in rw q (refl, omega arith)
+root-fault is_other n e = let q : n ≡ 10 = cc in rw q (refl, omega arith)
+root-fault twice n e = let q : n ≡ 9 = cc in rw q (refl, omega arith)
