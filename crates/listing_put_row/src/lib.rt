@@ -42,8 +42,8 @@ pub fn put_row(profile: Profile, t: &mut [u32], s: Reader, name: [u32; 8], c: [u
     let k = depth - 1;
     let end = 20 * s.count;
     match table_slot::find_spot(profile, &t[..end], s.folders[k], s.last, name) {
-        table_slot::Spot::Taken => Err(13),
-        table_slot::Spot::Free(i) => {
+        None => Err(13),
+        Some(i) => {
             if has_room(s.count, t.len()) {
                 table_slot::insert(t, s.count, i, row_of(depth, name, c));
                 return Ok(s.enter(i, c[0]));
