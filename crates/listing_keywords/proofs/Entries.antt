@@ -1,21 +1,19 @@
 -- What a line's type and its entry are, by how often each keyword is said and what its value says.
-use mathlib.Core.Path.{◌≡◌, refl, sym, ◌∙◌}
+use mathlib.Core.Path.{◌≡◌, refl}
 use mathlib.Core.List.{List, [], ◌∷◌}
 use mathlib.Core.Bool.{true, false}
 use lib.ListN.{get_or}
 use Prim.Native.Nat.{ℕ}
-use Rattle.tree.specs.Forest.{Forest, Node.folder}
 use Rattle.listing.specs.Names.{packed}
 use Rattle.listing.specs.Words.{Words, values}
 use Rattle.listing.specs.Bytes.{text}
-use Rattle.listing.specs.Entries.{Said, Said.none, Said.is_dir, Said.is_file, Said.is_other, Said.twice, Entry.faulty, Entry.holds, entry_as, one_each}
+use Rattle.listing.specs.Entries.{Said, Said.none, Said.is_dir, Said.is_file, Said.is_other, Said.twice, Entry.faulty, entry_as, one_each}
 use Rattle.listing_values.specs.Values.{IsSize, IsDigest}
 use Rattle.listing_values.specs.declared.Size.{Size}
 use Rattle.listing_keywords.specs.Found.{times, Found}
 use Rattle.listing_keywords.specs.Entries.{held_of, type_due}
 use Rattle.listing.specs.Values.{is_size, is_digest}
 use Rattle.std.specs.Prelude.{Some, None, Ok, Err, replicate}
-use Rattle.std.specs.Borrow.{Bor}
 use Rattle.tree.proofs.Never.{never}
 use Rattle.listing_keywords.specs.declared.Hit.{Hit}
 use Rattle.listing_keywords.specs.declared.Kind.TheVariants.{Dir, File}

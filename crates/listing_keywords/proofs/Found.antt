@@ -6,7 +6,7 @@ use mathlib.Core.Logic.{◌⊎◌, inl, inr, ⊎_elim}
 use native.Mathlib.Omega.{arith}
 use native.Mathlib.Numerals.{add-one}
 use lib.ListN.{length, take, drop, length-take, length-drop, drop_of_length-le}
-use lib.Seq.{drop-drop, take-take}
+use lib.Seq.{drop-drop}
 use Prim.Native.Nat.{ℕ, suc, ◌+◌, ◌-◌, ◌≤◌, ◌<◌}
 use Rattle.tree.specs.Same.{same_words}
 use Rattle.tree.proofs.Never.{never}
@@ -15,7 +15,7 @@ use Rattle.listing.specs.Bytes.{text}
 use Rattle.listing.specs.Words.{Words, words, words_from, key_len, values}
 use Rattle.listing_scan.specs.Places.{Counted}
 use Rattle.listing_scan.proofs.Next.{Next}
-use Rattle.listing_keywords.specs.Found.{part, times, first, Within, Stands, Found, AllFound, seen_after, hit_after, noted_after}
+use Rattle.listing_keywords.specs.Found.{part, times, first, Stands, Found, AllFound, seen_after, hit_after, noted_after}
 use Rattle.listing_keywords.specs.declared.Hit.{Hit}
 use Rattle.listing_keywords.specs.declared.Hit.TheVariants.{Never, Once, More}
 use Rattle.std.specs.Borrow.{Bor}

@@ -1,5 +1,5 @@
 -- The outcomes of the root's line and of an entry's, by the state that the struct stands for.
-use mathlib.Core.Path.{◌≡◌, refl, sym, ◌∙◌}
+use mathlib.Core.Path.{◌≡◌, refl}
 use mathlib.Core.List.{List}
 use mathlib.Core.Bool.{true, false, cond}
 use Rattle.tree.proofs.Never.{never}

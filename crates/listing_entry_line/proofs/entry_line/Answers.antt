@@ -1,7 +1,5 @@
 -- `entry_line` meets its contract: 11, 8, what the keywords say, then the entry's place.
 use mathlib.Core.Path.{◌≡◌, sym, ◌∙◌}
-use Prim.Native.Nat.{◌<◌}
-use native.Mathlib.Omega.{arith}
 use borrow.Author.Rules.{rules}
 use Rattle.std.proofs.Common.{Err}
 use Rattle.listing_lines.proofs.Entry.{entry-shut, entry-nameless, entry-bad, entry-content, entry-put}

@@ -3,7 +3,6 @@ use mathlib.Core.Path.{◌≡◌, sym, ap, ◌∙◌}
 use borrow.Author.Rules.{rules}
 use Rattle.std.proofs.Common.{Some, Ok, Err}
 use Rattle.listing.specs.Entries.{type_in, entry_of}
-use Rattle.listing_keywords.specs.declared.Kind.TheVariants.{Dir, File}
 use Rattle.listing_keywords.specs.Entries.{held_of}
 use Rattle.listing_keywords.proofs.Entries.{entry-bad, entry-folder, entry-file, entry-untold}
 use Rattle.listing_held.proofs.entry_of.Goals as goal

@@ -1,6 +1,5 @@
 -- `unescape` meets its contract: the first n bytes are what the bytes before place i spell, and none of them is 0.
 use mathlib.Core.Path.{sym, ◌∙◌}
-use mathlib.Core.Bool.{false≢true}
 use native.Mathlib.Omega.{arith}
 use Prim.Native.Nat.{◌+◌}
 use Rattle.listing_names.proofs.Spelling.{decode-at, decode-plain, decode-escape, write-none, write-one, spelt-bad, spelt-long, spelt-fits, spelt-words}

@@ -1,5 +1,5 @@
 -- `put_row` meets its contract: where the name goes among the rows in use, and the row put in there.
-use mathlib.Core.Path.{refl, sym, ◌∙◌}
+use mathlib.Core.Path.{sym, ◌∙◌}
 use lib.ListN.{length-take}
 use Rattle.listing_reader.proofs.Placed.{in_use, less-deep, row_fits, opened-ready, did-deep, did-taken, did-full, did-put}
 use native.Mathlib.Omega.{arith}

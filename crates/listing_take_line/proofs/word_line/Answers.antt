@@ -1,5 +1,5 @@
 -- `word_line` meets its contract: / lines, `..`, `.`, any other entry.
-use borrow.Author.Tests.{eq-eqb, ne_eqb}
+use borrow.Author.Tests.{ne_eqb}
 use Rattle.listing_lines.proofs.Entry.{ready-deep}
 use Rattle.listing_lines.proofs.Words.{takes-as, takes-alters, takes-root}
 use Rattle.listing_take_line.proofs.word_line.Goals as goal

@@ -2,7 +2,6 @@
 use mathlib.Core.Path.{◌≡◌}
 use mathlib.Core.Bool.{◌&&◌}
 use lib.ListN.{drop}
-use Prim.Native.Nat.{◌-◌}
 use Rattle.listing_values.specs.Values.{all_below}
 use Rattle.listing_values.proofs.all_digits.Given as goal
 

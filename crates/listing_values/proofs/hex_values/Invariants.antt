@@ -1,7 +1,6 @@
 -- `hex_values` meets its contract: the first i are the values of the first i digits.
 use mathlib.Core.List.{map}
 use lib.ListN.{drop}
-use Prim.Native.Nat.{◌-◌}
 use Rattle.listing.specs.Bytes.{digit_value}
 use Rattle.listing_values.proofs.Digests.{Filled}
 use Rattle.listing_values.proofs.hex_values.Given as goal

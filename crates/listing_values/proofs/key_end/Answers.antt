@@ -1,5 +1,5 @@
 -- `key_end` meets its contract: the keyword ends at the first `=`.
-use mathlib.Core.Path.{◌≡◌, ◌∙◌}
+use mathlib.Core.Path.{◌∙◌}
 use Rattle.listing_values.proofs.Keywords.{key-fits, key-place}
 use Rattle.listing_values.proofs.key_end.Goals as goal
 

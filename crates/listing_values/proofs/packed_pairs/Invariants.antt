@@ -1,6 +1,6 @@
 -- `packed_pairs` meets its contract: the first i bytes are what the values before place 2 * i say.
 use lib.ListN.{drop}
-use Prim.Native.Nat.{◌*◌, ◌-◌}
+use Prim.Native.Nat.{◌*◌}
 use Rattle.listing_values.specs.Values.{pairs}
 use Rattle.listing_values.proofs.Digests.{Filled}
 use Rattle.listing_values.proofs.packed_pairs.Given as goal

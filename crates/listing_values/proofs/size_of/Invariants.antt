@@ -1,7 +1,7 @@
 -- `size_of` meets its contract: the digits before place i say v, and v fits 64 bits.
 use mathlib.Core.Path.{◌≡◌}
-use lib.ListN.{length, drop}
-use Prim.Native.Nat.{◌-◌, ◌≤◌, ◌<◌}
+use lib.ListN.{drop}
+use Prim.Native.Nat.{◌<◌}
 use Rattle.listing.specs.Values.{digits, decimal_from, size_of}
 use Rattle.listing_values.proofs.size_of.Given as goal
 
