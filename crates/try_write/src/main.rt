@@ -41,10 +41,9 @@ fn show(rt: &impl Print, table: &[u32], text: &mut [u8]) -> io::Result<usize> {
 
 // With only the first n bytes lent.
 fn show_within(rt: &impl Print, table: &[u32], text: &mut [u8], n: usize) -> io::Result<()> {
-    if text.len() < n {
-        return Ok(());
+    if let Some(lent) = text.get_mut(..n) {
+        show(rt, table, lent)?;
     }
-    show(rt, table, &mut text[..n])?;
     Ok(())
 }
 
