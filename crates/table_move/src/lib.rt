@@ -24,7 +24,7 @@ fn carry_out(
 {
     match profile {
         Profile::Exact => {
-            let span = table_spans::span_at(source, names, depth);
+            let span = table_spans::span_at(source, &names[..depth]);
             table_pieces::carry_in(profile, target, target, source, span, names, depth, res)
         }
         Profile::Folded => table_move_keyed::carry_folded(
@@ -45,13 +45,6 @@ pub fn make_move(
     ensures { MoveContract profile target.now source.now names depth res.old res.new result }
 {
     let n = table_row::wide(depth);
-    let due = table_move_due::inputs_due(profile, target, source, names, n);
-    match due {
-        Answer::Accepted { place: _ } => carry_out(profile, target, source, names, n, res),
-        Answer::Refused {
-            number: _,
-            side: _,
-            place: _,
-        } => due,
-    }
+    table_move_due::inputs_due(profile, target, source, names, n)?;
+    carry_out(profile, target, source, names, n, res)
 }

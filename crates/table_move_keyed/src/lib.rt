@@ -56,7 +56,7 @@ fn carry_with(
     if turns == 0 {
         table_keys::key_table(source, made);
         let n = source.len();
-        let span = table_spans::span_at(&made[..n], names, depth);
+        let span = table_spans::span_at(&made[..n], &names[..depth]);
         return table_pieces::carry_in(
             Profile::Folded,
             target,
