@@ -4,6 +4,7 @@
 ghost use Rattle.std.specs.Prelude.{◌≤◌, ◌<◌};
 
 use std::io;
+use table_rules::Answer;
 
 // What stands in a result before a call.
 pub const CANARY: u32 = 0xC0FFEE11;
@@ -39,18 +40,14 @@ pub fn print_number(rt: &impl Print, x: usize) -> io::Result<()> {
 }
 
 // An answer's number, side and place; the rows written.
-pub fn print_answer(rt: &impl Print, answer: table_rules::Answer) -> io::Result<usize> {
+pub fn print_answer(rt: &impl Print, answer: Answer) -> io::Result<usize> {
     match answer {
-        table_rules::Answer::Accepted { place } => {
+        Ok(place) => {
             print!(rt; " 0 0 {place}")?;
             Ok(place)
         }
-        table_rules::Answer::Refused {
-            number,
-            side,
-            place,
-        } => {
-            print!(rt; " {number} {side} {place}")?;
+        Err(refusal) => {
+            print!(rt; " {} {} {}", refusal.number, refusal.side, refusal.place)?;
             Ok(0)
         }
     }
