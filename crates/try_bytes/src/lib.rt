@@ -23,6 +23,7 @@ pub fn decode(line: &[u8], k: usize, text: &mut [u8]) -> usize
 {
     let mut left = try_fields::rest(line, k);
     let mut n = 0;
+    // The step is as long as what stands for a byte.
     while let Some((b, next)) = try_fields::first_byte(left, b'A') {
         n = match left {
             [b'|', ..] => put(text, n, b"\n"),
