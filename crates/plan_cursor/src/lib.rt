@@ -37,8 +37,7 @@ pub fn scan(t: &[u32], i: usize, d: u32) -> u32
     ensures { result ≡ from t.now d i }
 {
     let n = t.len() / 20;
-    let mut j = i;
-    while j < n {
+    for j in i..n {
         let e = t[20 * j];
         if e == d {
             return j as u32;
@@ -46,7 +45,6 @@ pub fn scan(t: &[u32], i: usize, d: u32) -> u32
         if e < d {
             return NONE;
         }
-        j += 1;
     }
     NONE
 }

@@ -39,11 +39,9 @@ pub fn count_list(plan: &[u32], n: usize) -> usize
     ensures { result ≡ length (pieces piece_list (decisions n plan.now)) }
 {
     let mut sum = 0;
-    let mut k = 0;
-    while k < n {
+    for k in 0..n {
         let d = plan_decode::decode(plan, k);
         sum += line_len(d);
-        k += 1;
     }
     sum
 }
@@ -55,11 +53,9 @@ pub fn write_list(plan: &[u32], n: usize, out: &mut [u32]) -> usize
     ensures { Fills out.old (pieces piece_list (decisions n plan.now)) out.new result }
 {
     let mut at = 0;
-    let mut k = 0;
-    while k < n {
+    for k in 0..n {
         let d = plan_decode::decode(plan, k);
         at = write_line(d, out, at);
-        k += 1;
     }
     at
 }

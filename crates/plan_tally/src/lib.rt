@@ -18,12 +18,10 @@ fn count_kind(list: &[u32], kind: u32, n: usize) -> u32
     ensures { result ≡ counted kind n list.now }
 {
     let mut sum: u32 = 0;
-    let mut i = 0;
-    while i < n {
+    for i in 0..n {
         if list[3 * i] == kind {
             sum += 1;
         }
-        i += 1;
     }
     sum
 }

@@ -17,11 +17,9 @@ pub fn count_tree(o: &[u32], l: &[u32], r: &[u32], tree: Tree, plan: &[u32], n: 
     ensures { result ≡ length (new_tree tree o.now l.now r.now (decisions n plan.now)) }
 {
     let mut sum = 20;
-    let mut k = 0;
-    while k < n {
+    for k in 0..n {
         let s = plan_decode::takes(tree, plan_decode::decode(plan, k));
         sum += plan_pieces::source_len(o, l, r, s);
-        k += 1;
     }
     sum
 }
@@ -43,11 +41,9 @@ pub fn write_tree(
     ensures { Fills out.old (new_tree tree o.now l.now r.now (decisions n plan.now)) out.new result }
 {
     let mut at = table_row::copy_words(&l[0..20], out, 0);
-    let mut k = 0;
-    while k < n {
+    for k in 0..n {
         let d = plan_decode::decode(plan, k);
         at = plan_pieces::write_piece(o, l, r, tree, d, out, at);
-        k += 1;
     }
     at
 }
