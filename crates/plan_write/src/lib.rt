@@ -27,15 +27,14 @@ fn settle_folder(
 {
     let mut g = h;
     let mut q = at;
-    let mut left = o.len() / 20 + l.len() / 20 + r.len() / 20;
-    while 0 < left {
+    let n = o.len() / 20 + l.len() / 20 + r.len() / 20;
+    for _ in 0..n {
         if plan_steps::ended_at(o, l, r, g) {
             return q;
         }
         let e = plan_cursor::least_of(o, l, r, g);
         q = settle_entry(o, l, r, e, d, k, plan, q);
         g = plan_steps::past_at(o, l, r, d, g, e);
-        left -= 1;
     }
     q
 }
