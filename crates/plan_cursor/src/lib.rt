@@ -4,6 +4,10 @@
 ghost use Rattle.std.specs.Prelude.{◌≡◌, true, ◌+◌, ◌*◌, ◌%◌, ◌≤◌, length};
 ghost use Rattle.plan_cursor.specs.Cursor.{is_row, from, order_at, not_after, keep, turned, least, behind, is_folder, decision};
 
+pub mod tables;
+
+pub use tables::Tables;
+
 // A row of archive, left and right each; 4,294,967,295 where there is none.
 #[derive(Clone, Copy)]
 pub struct Rows {
@@ -102,17 +106,17 @@ fn turn(x: table_row::Order) -> table_row::Order
 }
 
 // Whether three heads are rows with one name.
-fn same_heads(o: &[u32], l: &[u32], r: &[u32], h: Rows) -> bool
-    ensures { result ≡ true → least o.now l.now r.now h ≡ h }
+fn same_heads(t: Tables, h: Rows) -> bool
+    ensures { result ≡ true → least t.entry.o.now t.entry.l.now t.entry.r.now h ≡ h }
 {
     let a = table_row::wide(h.o);
     let b = table_row::wide(h.l);
     let c = table_row::wide(h.r);
-    if a < o.len() / 20 {
-        if b < l.len() / 20 {
-            if c < r.len() / 20 {
-                if table_compare::same_names(l, b, r, c) {
-                    return table_compare::same_names(o, a, l, b);
+    if a < t.o.len() / 20 {
+        if b < t.l.len() / 20 {
+            if c < t.r.len() / 20 {
+                if table_compare::same_names(t.l, b, t.r, c) {
+                    return table_compare::same_names(t.o, a, t.l, b);
                 }
             }
         }
@@ -121,18 +125,18 @@ fn same_heads(o: &[u32], l: &[u32], r: &[u32], h: Rows) -> bool
 }
 
 // Of three heads those with the least name; where all have one name, as most do, that is told first.
-pub fn least_of(o: &[u32], l: &[u32], r: &[u32], h: Rows) -> Rows
-    ensures { result ≡ least o.now l.now r.now h }
+pub fn least_of(t: Tables, h: Rows) -> Rows
+    ensures { result ≡ least t.entry.o.now t.entry.l.now t.entry.r.now h }
 {
     let a = h.o;
     let b = h.l;
     let c = h.r;
-    if same_heads(o, l, r, h) {
+    if same_heads(t, h) {
         return h;
     }
-    let x = order_at(o, a, l, b);
-    let y = order_at(l, b, r, c);
-    let z = order_at(o, a, r, c);
+    let x = order_at(t.o, a, t.l, b);
+    let y = order_at(t.l, b, t.r, c);
+    let z = order_at(t.o, a, t.r, c);
     let first = kept(a, x, z);
     let second = kept(b, turn(x), y);
     let third = kept(c, turn(z), turn(y));
@@ -157,6 +161,7 @@ pub fn behind_at(w: &[u32], d: u32, a: u32, t: u32) -> u32
 }
 
 // Whether row i is a folder's.
+#[tactic(auto, unfolding(crate::specs::Cursor::is_folder))]
 pub fn is_folder(t: &[u32], i: u32) -> bool
     ensures { result ≡ is_folder t.now i }
 {
@@ -169,7 +174,9 @@ pub fn is_folder(t: &[u32], i: u32) -> bool
     }
 }
 
-// The decision where the rows h are not folders on both sides: the first of document 01's four lines that fits.
+// The decision where the rows h are not folders on both sides: the first of document 01's four lines that fits. The tables stay
+// three parameters, since Tables would ask callers for a length too.
+#[tactic(auto, unfolding(crate::specs::Cursor::decision))]
 pub fn decide(o: &[u32], l: &[u32], r: &[u32], h: Rows) -> Decision
     requires { (length o.now % 20 ≡ 0) × (length l.now % 20 ≡ 0) × (length r.now % 20 ≡ 0) }
     ensures { result ≡ decision o.now l.now r.now h }

@@ -4,7 +4,8 @@ use mathlib.Core.Path.{◌≡◌, refl, ap, sym, ◌∙◌}
 use mathlib.Core.List.{List}
 use mathlib.Core.Bool.{true}
 use native.Mathlib.Omega.{arith}
-use lib.ListN.{length, drop, length-append}
+use lib.ListN.{length, take, drop, length-append}
+use lib.Seq.{length-take-le}
 use lib.Dec.{leb}
 use Prim.Native.Nat.{ℕ, zero, suc, ◌*◌, ◌/◌, ◌%◌, ◌≤◌}
 use borrow.Author.Tests.{leb-true}
@@ -25,12 +26,12 @@ use Rattle.plan_tally.specs.declared.Tally.{Tally}
 use Rattle.plan_tally.specs.Count.{counted_all}
 use Rattle.plan_results.specs.declared.Tree.{Tree}
 use Rattle.plan_results.specs.declared.Tree.TheVariants.{Archive, Left, Right}
-use Rattle.plan_results.specs.Decisions.{decision_of, decisions, pieces}
+use Rattle.plan_results.specs.Decisions.{decision_of, decisions, decided, pieces}
 use Rattle.plan_results.specs.Pieces.{new_tree, piece_list}
 use Rattle.plan_results.proofs.Pieces.{line-most}
 use Rattle.table_rules.proofs.Faults.{first-passed, first-both, refusal-fine, unless-true, room-parts}
 use Rattle.table_rules.proofs.Passing.{twins-fine}
-use Rattle.plan_tally.proofs.Laws.{counts-list}
+use Rattle.plan_tally.proofs.Laws.{counts-front, counts-list}
 use Rattle.plan_run.specs.declared.Reconciled.{Reconciled}
 use Rattle.plan_run.specs.declared.Counts.{Counts}
 use Rattle.plan_run.specs.Answer.{answer_with}
@@ -71,16 +72,17 @@ pub record Tried (p : Profile) (o l r : List ℕ) (s e : List ℕ) (q : ℕ) (b 
   pub l-sound : Sound p l
   pub r-sound : Sound p r
   pub planned : Fills s (settled (keyed p o) (keyed p l) (keyed p r)) e q
-  pub counted : c ≡ planned_counts o l r (decisions (q / 4) e)
+  pub fits : q ≤ length e
+  pub counted : c ≡ planned_counts o l r (decided (take q e))
   pub due-is : due ≡ rooms_due c (length b.archive) (length b.left) (length b.right) (length b.list)
   pub answer-is : a ≡ answer_with due c
 
 module _ {p : Profile} {o l r s e : List ℕ} {q : ℕ} {b : Lent} {c : Counts} {due : Answer} {a : Reconciled} (T : Tried p o l r s e q b c due a) where
   counts : c ≡ counts_of (given p o l r)
-  counts = T.counted ∙ planned-counts p o l r T.o-sound T.l-sound T.r-sound s e q T.planned
+  counts = T.counted ∙ planned-counts p o l r T.o-sound T.l-sound T.r-sound s e q T.planned T.fits
 
-  words : planned_words o l r (decisions (q / 4) e) ≡ outcome_words p o l r
-  words = planned-words p o l r T.o-sound T.l-sound T.r-sound s e q T.planned
+  words : planned_words o l r (decided (take q e)) ≡ outcome_words p o l r
+  words = planned-words p o l r T.o-sound T.l-sound T.r-sound s e q T.planned T.fits
 
   due-at : due ≡ room_due p o l r b
   due-at = T.due-is ∙ rw counts refl
@@ -95,26 +97,26 @@ module _ {p : Profile} {o l r s e : List ℕ} {q : ℕ} {b : Lent} {c : Counts} 
     R : Rooms c (length b.archive) (length b.left) (length b.right) (length b.list)
     R = rooms c _ _ _ _ (ap is_accepted (sym T.due-is ∙ h))
 
-    whole : (t : Tree) → length (new_tree t o l r (decisions (q / 4) e)) % 20 ≡ 0
-    whole = whole-rows p o l r T.o-sound T.l-sound T.r-sound s e q T.planned
+    whole : (t : Tree) → length (new_tree t o l r (decided (take q e))) % 20 ≡ 0
+    whole = whole-rows p o l r T.o-sound T.l-sound T.r-sound s e q T.planned T.fits
 
-    pub spacious : Spacious (planned_words o l r (decisions (q / 4) e)) b.archive b.left b.right b.list
+    pub spacious : Spacious (planned_words o l r (decided (take q e))) b.archive b.left b.right b.list
     spacious = record {
       archive = omega (arith, R.archive, ap (λ (x : Counts). x.archive) T.counted, whole Archive);
       left = omega (arith, R.left, ap (λ (x : Counts). x.left) T.counted, whole Left);
       right = omega (arith, R.right, ap (λ (x : Counts). x.right) T.counted, whole Right);
-      list = omega (arith, R.list, ap (λ (x : Counts). x.list) T.counted, whole-lines p o l r T.o-sound T.l-sound T.r-sound s e q T.planned);
+      list = omega (arith, R.list, ap (λ (x : Counts). x.list) T.counted, whole-lines p o l r T.o-sound T.l-sound T.r-sound s e q T.planned T.fits);
     }
 
     -- the list's entries, within the words of its buffer
     pub entries : (x : List ℕ) → length x ≡ length b.list → (3 * c.list ≤ length x) × (c.list ≤ 12288)
     entries x i =
         let n = items-most p o l r T.o-sound T.l-sound T.r-sound s e q T.planned in
-        (omega (arith, R.list), omega (arith, ap (λ (x : Counts). x.list) T.counted, lines-most (q / 4) e))
+        (omega (arith, R.list), omega (arith, ap (λ (x : Counts). x.list) T.counted, lines-most (length (take q e) / 4) (take q e), length-take-le q e T.fits))
 
-    pub settles-accepted : (a' l' r' i' : List ℕ) (t : Tally) → Wrote (planned_words o l r (decisions (q / 4) e)) b.archive b.left b.right b.list a' l' r' i'
-        → t ≡ counted_all c.list i' → Settles p o l r b (lent a' l' r' i' t) a
-    settles-accepted a' l' r' i' t w m = record { answered = answered; left_in = rw (← due-at, h) (rw (a-is, l-is, r-is, t-is, i-is) refl) }
+    pub settles-accepted : (a' l' r' i' : List ℕ) (t : Tally) → Wrote (planned_words o l r (decided (take q e))) b.archive b.left b.right b.list a' l' r' i'
+        → length i' ≡ length b.list → t ≡ counted_all (length (take (3 * c.list) i') / 3) (take (3 * c.list) i') → Settles p o l r b (lent a' l' r' i' t) a
+    settles-accepted a' l' r' i' t w j m = record { answered = answered; left_in = rw (← due-at, h) (rw (a-is, l-is, r-is, t-is, i-is) refl) }
       where
         a-is : a' ≡ (filled p o l r b).archive
         a-is = w.archive ∙ ap (λ (x : Words). over b.archive x.archive) words
@@ -130,7 +132,7 @@ module _ {p : Profile} {o l r s e : List ℕ} {q : ℕ} {b : Lent} {c : Counts} 
 
         t-is : t ≡ (filled p o l r b).tally
         t-is =
-            m ∙ ap (λ (x : ℕ). counted_all x i') (ap (λ (x : Counts). x.list) counts)
+            m ∙ counts-front c.list i' (entries i' j).0 ∙ ap (λ (x : ℕ). counted_all x i') (ap (λ (x : Counts). x.list) counts)
             ∙ ap (counted_all (counts_of (given p o l r)).list) i-is
             ∙ counts-list b.list (fold p (tree_of l)) (fold p (tree_of r)) (given p o l r).lines
 

@@ -18,4 +18,4 @@ decreases-settle_folder l = 2 * l.k + 1
 abbrev pub invariant-settle_folder-loop : goal.invariant-settle_folder-loop
 invariant-settle_folder-loop l =
     (length l.plan ≡ length l.initial.plan) ×
-    Writes l.initial.plan l.at (folder l.o l.l l.r l.k l.d l.initial.g) (written l.plan l.q (rest l.o l.l l.r l.k l.d (l.n - l.counter) l.g)) (l.q + length (rest l.o l.l l.r l.k l.d (l.n - l.counter) l.g))
+    Writes l.initial.plan l.at (folder l.t.o.now l.t.l.now l.t.r.now l.k l.d l.initial.g) (written l.plan l.q (rest l.t.o.now l.t.l.now l.t.r.now l.k l.d (l.n - l.counter) l.g)) (l.q + length (rest l.t.o.now l.t.l.now l.t.r.now l.k l.d (l.n - l.counter) l.g))
