@@ -1,4 +1,5 @@
 -- What putting an entry in comes to, by where its name goes: 14, 13, 3, or the state with the entry.
+use Rattle.std.proofs.Common.{Option, Some, None}
 use mathlib.Core.Path.{◌≡◌, refl, sym, ap, ◌∙◌}
 use mathlib.Core.List.{List, [], ◌∷◌, ◌++◌}
 use mathlib.Core.Bool.{Bool, true, false, cond}
@@ -16,8 +17,6 @@ use Rattle.table_row.specs.Tree.{file_row}
 use Rattle.table_row.specs.Keyed.{keyed}
 use Rattle.table_stands.specs.Around.{row_in}
 use Rattle.table_slot.specs.Insert.{inserted, spot_of}
-use Rattle.table_slot.specs.declared.Spot.{Spot}
-use Rattle.table_slot.specs.declared.Spot.TheVariants.{Free, Taken}
 use Rattle.tree.proofs.Never.{never}
 use Rattle.tree.proofs.Spots.{path-append}
 use Rattle.table_slot.proofs.Grown.{file-words, folder-words}
@@ -106,12 +105,12 @@ module _ (p : Profile) (most : ℕ) (n : Name) (x : Node) (f : Forest) (q : Tree
   unfolding placed
   placed_by u v h a b = rw (lt-leb 16 (length q) h, path-append p q (n ∷ []), a, b)
 
-absent-free : (x : Node) (j i : ℕ) → spot_at x j ≡ Free i → (x ≡ absent) × (j ≡ i)
+absent-free : (x : Node) (j i : ℕ) → spot_at x j ≡ Some i → (x ≡ absent) × (j ≡ i)
 absent-free absent j i e = (refl, cc)
 absent-free (file c) j i e = never (cc)
 absent-free (folder k) j i e = never (cc)
 
-there-taken : (x : Node) (j : ℕ) → spot_at x j ≡ Taken → is_absent x ≡ false
+there-taken : (x : Node) (j : ℕ) → spot_at x j ≡ None → is_absent x ≡ false
 there-taken absent j e = never (cc)
 there-taken (file c) j e = refl
 there-taken (folder k) j e = refl
@@ -140,7 +139,7 @@ module _ (p : Profile) (w : List ℕ) (s : Reader) (n : Name) (c : Content) (f :
     abbrev keys : TreePath
     keys = fold_path p q ++ (key p n ∷ [])
 
-    abbrev spot : Spot
+    abbrev spot : Option ℕ
     spot = spot_of (keyed p (take (20 * s.count) w)) (get_or s.folders (s.depth - 1) 0) s.last (key p n)
 
     spot_is : spot ≡ spot_at (at F keys) (row_in F keys)
@@ -153,11 +152,11 @@ module _ (p : Profile) (w : List ℕ) (s : Reader) (n : Name) (c : Content) (f :
             let i : s.depth - 1 ≡ length q = let z = h.deep in omega arith in
             rw i (found p (most_rows (length w)) w s f q d g h k e n)
 
-    pub did-taken : Taken ≡ spot → r.number ≡ 13 → Due
+    pub did-taken : None ≡ spot → r.number ≡ 13 → Due
     did-taken t e =
         rw (placed_by p (most_rows (length w)) n (node_of c) f q d false _ less (there-taken (at F keys) _ (sym (t ∙ spot_is))) refl) (e, omega arith)
 
-    module _ (i : ℕ) (free : Free i ≡ spot) where
+    module _ (i : ℕ) (free : Some i ≡ spot) where
       gone : (at F keys ≡ absent) × (row_in F keys ≡ i)
       gone = absent-free _ _ i (sym (free ∙ spot_is))
 

@@ -4,31 +4,20 @@
 ghost use Rattle.std.specs.Prelude.{◌≡◌, ◌&&◌};
 ghost use Rattle.table_carry.specs.Carried.{passes as passes_rules, carried_rows};
 
-use table_rules::Answer;
 use tree::Profile;
 
 // Whether a table keeps the rules.
 fn passes(profile: Profile, t: &[u32]) -> bool
     ensures { result ≡ passes_rules profile t.now }
 {
-    match table_answers::check_table(profile, t) {
-        Answer::Accepted { place: _ } => true,
-        Answer::Refused {
-            number: _,
-            side: _,
-            place: _,
-        } => false,
-    }
+    table_answers::check_table(profile, t).is_ok()
 }
 
 // Whether both tables keep the rules.
 fn both_pass(profile: Profile, left: &[u32], right: &[u32]) -> bool
     ensures { result ≡ (passes_rules profile left.now && passes_rules profile right.now) }
 {
-    if passes(profile, left) {
-        return passes(profile, right);
-    }
-    false
+    passes(profile, left) && passes(profile, right)
 }
 
 // The rows that a list entry of a kind carries: the right's where left gets, the left's where right gets, else none.

@@ -21,7 +21,7 @@ use Rattle.tree.proofs.Same.{and-true}
 use Rattle.tree.proofs.Order.{Cmp, Cmp.less, Cmp.same, Cmp.more, view, compare-below}
 use Rattle.table_row.specs.Table.{Row, row_at, depth, kind, name}
 use Rattle.table_row.specs.Order.{ordered}
-use Rattle.table_row.specs.declared.Order.TheVariants.{Less}
+use Rattle.std.specs.declared.cmp.Ordering.TheVariants.{Less}
 use Rattle.table_row.proofs.Fits.{zeros-all}
 use Rattle.table_rules.specs.Rules.{deepest, depth_rule, kind_rule, before}
 use Rattle.table_rules.specs.Keyed.{sibling, ok_row_in, no_twin, lowest}

@@ -8,21 +8,21 @@ ghost use Rattle.table_rules.specs.Rules.{before, sized};
 ghost use Rattle.table_rules.specs.Seen.{fit_after, fit_of, or_row, SeesRows, Sees};
 ghost use Rattle.table_check.specs.Last.{Lasts, lasts_after};
 
-use table_row::Order;
+use std::cmp::Ordering;
 use table_rules::{Checked, Fit, Seen};
 use tree::Profile;
 
 // How a row follows a sibling that stands so to it.
-fn fit_after(profile: Profile, o: Order) -> Fit
+fn fit_after(profile: Profile, o: Ordering) -> Fit
     ensures { result ≡ fit_after profile o }
 {
     match o {
-        Order::Less => Fit::Good,
-        Order::Same => match profile {
+        Ordering::Less => Fit::Good,
+        Ordering::Equal => match profile {
             Profile::Exact => Fit::Bad,
             Profile::Folded => Fit::Twin,
         },
-        Order::Greater => Fit::Bad,
+        Ordering::Greater => Fit::Bad,
     }
 }
 
@@ -73,8 +73,7 @@ fn check_entries(profile: Profile, t: &[u32]) -> Seen
     let n = t.len() / 20;
     let mut last = [0usize; 18];
     let mut twins = Checked::Fine;
-    let mut i = 1;
-    while i < n {
+    for i in 1..n {
         match row_fit(profile, t, i, &last) {
             Fit::Good => {}
             Fit::Twin => twins = or_row(twins, i),
@@ -84,7 +83,6 @@ fn check_entries(profile: Profile, t: &[u32]) -> Seen
             }
         }
         remember(&mut last, table_row::wide(table_row::word(t, i, 0)), i);
-        i += 1;
     }
     let rows = Checked::Fine;
     Seen { rows, twins }

@@ -10,7 +10,7 @@ ghost use Rattle.table_row.specs.Table.{row_at, name};
 ghost use Rattle.table_row.specs.Order.{ordered};
 ghost use Rattle.table_row.specs.Keyed.{key_word};
 
-use table_row::Order;
+use std::cmp::Ordering;
 use tree::Profile;
 
 // A to Z as a to z in each of a word's four bytes, at once: bit 7 of a byte in p says that its lower seven bits are 65 or more,
@@ -37,27 +37,25 @@ fn key_word(profile: Profile, x: u32) -> u32
 }
 
 // The order of two names by their keys: the first words that differ decide.
-pub fn compare_keys(profile: Profile, a: &[u32], b: &[u32]) -> Order
+pub fn compare_keys(profile: Profile, a: &[u32], b: &[u32]) -> Ordering
     requires { length a.now ≡ length b.now }
     ensures { result ≡ ordered (cmp (key profile a.now) (key profile b.now)) }
 {
-    let mut k = 0;
-    while k < a.len() {
+    for k in 0..a.len() {
         let x = key_word(profile, a[k]);
         let y = key_word(profile, b[k]);
         if x < y {
-            return Order::Less;
+            return Ordering::Less;
         }
         if y < x {
-            return Order::Greater;
+            return Ordering::Greater;
         }
-        k += 1;
     }
-    Order::Same
+    Ordering::Equal
 }
 
 // The order of two lists of as many words.
-pub fn compare_words(a: &[u32], b: &[u32]) -> Order
+pub fn compare_words(a: &[u32], b: &[u32]) -> Ordering
     requires { length a.now ≡ length b.now }
     ensures { result ≡ ordered (cmp a.now b.now) }
 {
@@ -72,24 +70,18 @@ pub fn same_names(a: &[u32], i: usize, b: &[u32], j: usize) -> bool
     let p = 20 * i + 2;
     let q = 20 * j + 2;
     let mut same = true;
-    let mut k = 0;
-    while k < 8 {
+    for k in 0..8 {
         if a[p + k] != b[q + k] {
             same = false;
         }
-        k += 1;
     }
     same
 }
 
 // The order of the names of row i of a and row j of b.
-pub fn compare_names(a: &[u32], i: usize, b: &[u32], j: usize) -> Order
+pub fn compare_names(a: &[u32], i: usize, b: &[u32], j: usize) -> Ordering
     requires { (20 * i + 20 ≤ length a.now) × (20 * j + 20 ≤ length b.now) }
     ensures { result ≡ ordered (cmp (name (row_at a.now i)) (name (row_at b.now j))) }
 {
-    let p = 20 * i + 2;
-    let pe = p + 8;
-    let q = 20 * j + 2;
-    let qe = q + 8;
-    compare_words(&a[p..pe], &b[q..qe])
+    compare_words(table_row::name(a, i), table_row::name(b, j))
 }

@@ -6,13 +6,6 @@ ghost use Rattle.tree.specs.Same.{same_words};
 ghost use Rattle.table_row.specs.Table.{row_at};
 ghost use Rattle.table_find.specs.Subtree.{end_of, subtree};
 
-// The row of an entry, or that there is none.
-#[derive(Clone, Copy)]
-pub enum Found {
-    At(usize),
-    Nothing,
-}
-
 // The first row after row i whose depth is not greater, or the number of rows.
 pub fn subtree_end(t: &[u32], i: usize) -> usize
     requires { 20 * (i + 1) ≤ length t.now }
@@ -20,14 +13,12 @@ pub fn subtree_end(t: &[u32], i: usize) -> usize
 {
     let n = t.len() / 20;
     let d = t[20 * i];
-    let mut e = i + 1;
-    while e < n {
+    for e in i + 1..n {
         if t[20 * e] <= d {
             return e;
         }
-        e += 1;
     }
-    e
+    n
 }
 
 // The words of the subtree at row i; none where there is no such row.
@@ -56,11 +47,8 @@ fn same_below(w: &[u32], i: usize, v: &[u32], j: usize) -> bool
     if n != m {
         return false;
     }
-    let mut k = 1;
-    while k < n {
-        if table_row::same_rows(w, i + k, v, j + k) {
-            k += 1;
-        } else {
+    for k in 1..n {
+        if !table_row::same_rows(w, i + k, v, j + k) {
             return false;
         }
     }

@@ -14,10 +14,8 @@ fn lower_name(t: &mut [u32], at: usize)
     requires { at + 8 ≤ length t.old }
     ensures { t.new ≡ written t.old at (map lower_word (take 8 (drop at t.old))) }
 {
-    let mut i = 0;
-    while i < 8 {
+    for i in 0..8 {
         t[at + i] = table_compare::lower_word(t[at + i]);
-        i += 1;
     }
 }
 
@@ -43,9 +41,7 @@ pub fn key_table(t: &[u32], out: &mut [u32])
 {
     table_row::copy_words(t, out, 0);
     let n = t.len() / 20;
-    let mut i = 0;
-    while i < n {
+    for i in 0..n {
         lower_name(out, 20 * i + 2);
-        i += 1;
     }
 }

@@ -45,13 +45,6 @@ pub fn make_move(
     ensures { MoveContract profile target.now source.now names depth res.old res.new result }
 {
     let n = table_row::wide(depth);
-    let due = table_move_due::inputs_due(profile, target, source, names, n);
-    match due {
-        Answer::Accepted { place: _ } => carry_out(profile, target, source, names, n, res),
-        Answer::Refused {
-            number: _,
-            side: _,
-            place: _,
-        } => due,
-    }
+    table_move_due::inputs_due(profile, target, source, names, n)?;
+    carry_out(profile, target, source, names, n, res)
 }

@@ -13,14 +13,10 @@ fn tables_due(profile: Profile, target: &[u32], source: &[u32]) -> Answer
 {
     let t = table_check::check(profile, target);
     let s = table_check::check(profile, source);
-    let first = table_answers::refusal(t, 2);
-    let second = table_answers::refusal(s, 3);
-    let third = table_answers::twins_refusal(t, 2);
-    let last = table_answers::twins_refusal(s, 3);
-    table_answers::first_of(
-        first,
-        table_answers::first_of(second, table_answers::first_of(third, last)),
-    )
+    table_answers::refusal(t, 2)?;
+    table_answers::refusal(s, 3)?;
+    table_answers::twins_refusal(t, 2)?;
+    table_answers::twins_refusal(s, 3)
 }
 
 // The answer that the tables and the path are due: numbers 1, 2, 16 and 5.
@@ -33,9 +29,6 @@ pub fn inputs_due(
 ) -> Answer
     ensures { result ≡ inputs_due profile target.now source.now names depth }
 {
-    let tables = tables_due(profile, target, source);
-    table_answers::first_of(
-        tables,
-        table_answers::unless_refused(table_path::path_ok(names, depth), 5, 0),
-    )
+    tables_due(profile, target, source)?;
+    table_answers::unless_refused(table_path::path_ok(names, depth), 5, 0)
 }

@@ -1,4 +1,6 @@
 -- A move by keys: its inputs are ready to be put in at the parent's row, and what is put in are the words of the moved tree.
+use Rattle.table_rules.specs.Answer.{Answer}
+use Rattle.std.proofs.Common.{Option, Some, None}
 use mathlib.Core.Path.{◌≡◌, refl, sym, ap, ◌∙◌}
 use mathlib.Core.List.{List, [], map}
 use mathlib.Core.Bool.{true, false}
@@ -16,13 +18,10 @@ use Rattle.tree.proofs.Folds.{path-exact}
 use Rattle.table_row.specs.Tree.{tree_of}
 use Rattle.table_row.specs.Keyed.{keyed}
 use Rattle.table_row.proofs.Keyed.{tree-keyed, length-keyed, keyed-exact}
-use Rattle.table_rules.specs.declared.Answer.{Answer}
 use Rattle.table_rules.specs.Keyed.{twins, Passes}
 use Rattle.table_rules.proofs.Keyed.{passes-keyed}
 use Rattle.table_rules.proofs.Passed.{passed-whole, passed_words}
 use Rattle.table_rules.proofs.Exact.{checked-exact}
-use Rattle.table_find.specs.declared.Found.{Found}
-use Rattle.table_find.specs.declared.Found.TheVariants.{At, Nothing}
 use Rattle.table_find.specs.Subtree.{end_of}
 use Rattle.table_follow.specs.Follow.{follow}
 use Rattle.table_moved.specs.declared.Span.{Span}
@@ -39,13 +38,13 @@ unfolding twins
 keys-pass p w P = record { checked-fine = checked-exact (keyed p w) ∙ passes-keyed p w P; no-twins = refl }
 
 -- a part that is found is rows
-pub span-rows : (w u : List ℕ) (f : Found) (S : Span) → Spans u f S → length u ≡ length w → length w ≤ 81920 → Rows (take (S.to - S.from) (drop S.from w))
-span-rows w u (At i) S h e m =
+pub span-rows : (w u : List ℕ) (f : Option ℕ) (S : Span) → Spans u f S → length u ≡ length w → length w ≤ 81920 → Rows (take (S.to - S.from) (drop S.from w))
+span-rows w u (Some i) S h e m =
     let a : S.from ≡ 20 * i = ap (λ (s : Span). s.from) h.span in
     let b : S.to ≡ 20 * end_of u i = ap (λ (s : Span). s.to) h.span in
     let l : length (take (S.to - S.from) (drop S.from w)) ≡ 20 * end_of u i - 20 * i = simp (length-take, length-drop) (omega (arith, h.first, h.last)) in
     record { whole = omega arith; most = omega (arith, h.last) }
-span-rows w u Nothing S h e m =
+span-rows w u None S h e m =
     let a : S.from ≡ 0 = ap (λ (s : Span). s.from) h.span in
     let b : S.to ≡ 0 = ap (λ (s : Span). s.to) h.span in
     let l : length (take (S.to - S.from) (drop S.from w)) ≡ 0 = simp (length-take, length-drop) (omega arith) in
@@ -62,13 +61,13 @@ module _ (p : Profile) (target keys source : List ℕ) (span : Span) (names : Li
   parent-rule : is_folder (at (folder (tree_of keys)) (parent_of names depth)) ≡ parent_rule p target names depth
   parent-rule = rw (I.keyed-target, tree-keyed p target, path-own p names I.named (depth - 1))
 
-  pub parent-there : (i : ℕ) → folder_at (tree_of keys) (parent_of names depth) ≡ At i → parent_rule p target names depth ≡ true
+  pub parent-there : (i : ℕ) → folder_at (tree_of keys) (parent_of names depth) ≡ Some i → parent_rule p target names depth ≡ true
   parent-there i e = sym parent-rule ∙ is-folder (tree_of keys) (parent_of names depth) i e
 
-  pub parent-gone : folder_at (tree_of keys) (parent_of names depth) ≡ Nothing → parent_rule p target names depth ≡ false
+  pub parent-gone : folder_at (tree_of keys) (parent_of names depth) ≡ None → parent_rule p target names depth ≡ false
   parent-gone e = sym parent-rule ∙ no-folder (tree_of keys) (parent_of names depth) e
 
-  module _ (t : Words32 target) (s : Words32 source) (sixteen : length names ≡ 16) (i : ℕ) (e : folder_at (tree_of keys) (parent_of names depth) ≡ At i) (inside : 20 * (i + 1) ≤ length keys) where
+  module _ (t : Words32 target) (s : Words32 source) (sixteen : length names ≡ 16) (i : ℕ) (e : folder_at (tree_of keys) (parent_of names depth) ≡ Some i) (inside : 20 * (i + 1) ≤ length keys) where
     abbrev words : List ℕ
     words = take (span.to - span.from) (drop span.from source)
 

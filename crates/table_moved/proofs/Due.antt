@@ -1,4 +1,5 @@
 -- The answer that a move is due, and its contract from what is written.
+use Rattle.std.proofs.Common.{Ok, Err}
 use mathlib.Core.Path.{◌≡◌, refl, sym, ap, subst, ◌∙◌}
 use mathlib.Core.List.{List, [], ◌∷◌, ◌++◌}
 use mathlib.Core.Bool.{true, false, cond, ◌&&◌}
@@ -11,9 +12,7 @@ use Rattle.tree.specs.Name.{Name}
 use Rattle.tree.specs.Forest.{at}
 use Rattle.tree.specs.declared.Profile.{Profile}
 use Rattle.table_row.specs.Buffer.{over}
-use Rattle.table_rules.specs.declared.Answer.{Answer}
-use Rattle.table_rules.specs.declared.Answer.TheVariants.{Accepted, Refused}
-use Rattle.table_rules.specs.Answer.{number_of, side_of, place_of, is_accepted}
+use Rattle.table_rules.specs.Answer.{number_of, side_of, place_of, is_accepted, Answer, refusal}
 use Rattle.table_rules.specs.Refusal.{refusal_of, twins_due}
 use Rattle.table_rules.specs.Keyed.{checked_in, twins, Passes}
 use Rattle.table_rules.specs.Faults.{first_refusal, unless, room_rule}
@@ -45,11 +44,11 @@ root-parent p target names = refl
 
 -- words that have room, or have not
 module _ (words lent : List ℕ) (n : ℕ) (q : length words / 20 ≡ n) where
-  pub put-in : (result : List ℕ) → room_rule n (length lent) ≡ true → result ≡ over lent words → PutIn words lent result (Accepted n)
+  pub put-in : (result : List ℕ) → room_rule n (length lent) ≡ true → result ≡ over lent words → PutIn words lent result (Ok n)
   unfolding first_refusal
   put-in result h e = record { answered = rw (q, h); room = rw (q, h) e }
 
-  pub no_room : room_rule n (length lent) ≡ false → PutIn words lent lent (Refused 3 2 0)
+  pub no_room : room_rule n (length lent) ≡ false → PutIn words lent lent (Err (refusal 3 2 0))
   unfolding first_refusal
   no_room h = record { answered = rw (q, h); room = rw (q, h) }
 
@@ -77,10 +76,10 @@ module _ (p : Profile) (target source : List ℕ) (names : List Name) (depth : �
   inputs-first =
       with-last (refusal_of (checked_in p target) 2 ∷ refusal_of (checked_in p source) 3 ∷ twins_due (twins p target) 2 ∷ []) (twins_due (twins p source) 3) (path_rule names depth) 5 0
 
-  pub inputs-passed : (a : ℕ) → inputs_due p target source names depth ≡ Accepted a → Passes p target × Passes p source × (1 ≤ depth) × (depth ≤ 16)
+  pub inputs-passed : (a : ℕ) → inputs_due p target source names depth ≡ Ok a → Passes p target × Passes p source × (1 ≤ depth) × (depth ≤ 16)
   unfolding All inputs_due
   inputs-passed a e =
-      let h = all-passed inputs (Accepted 0) a e in
+      let h = all-passed inputs (Ok 0) a e in
       let d = path-depth names depth (unless-true (path_rule names depth) 5 0 h.1.1.1.1.0) in (
         record { checked-fine = refusal-fine (checked_in p target) 2 h.0; no-twins = twins-fine p target 2 h.1.1.0 },
         record { checked-fine = refusal-fine (checked_in p source) 3 h.1.0; no-twins = twins-fine p source 3 h.1.1.1.0 },
@@ -97,13 +96,13 @@ module _ (p : Profile) (target source : List ℕ) (names : List Name) (depth : �
 
     due-parts : move_due p target source names depth lent ≡ cond (is_accepted (inputs_due p target source names depth)) (rest_due p target source names depth lent) (inputs_due p target source names depth)
     unfolding move_due inputs_due first_refusal
-    due-parts = first-append inputs rest (Accepted (length words / 20))
+    due-parts = first-append inputs rest (Ok (length words / 20))
 
     -- an accepted move has passed every check, and one that has is accepted
-    pub move-passed : (a : ℕ) → move_due p target source names depth lent ≡ Accepted a → Passed p target source names depth lent
+    pub move-passed : (a : ℕ) → move_due p target source names depth lent ≡ Ok a → Passed p target source names depth lent
     unfolding move_due All
     move-passed a e =
-        let h = all-passed (inputs ++ rest) (Accepted (length words / 20)) a e in
+        let h = all-passed (inputs ++ rest) (Ok (length words / 20)) a e in
         record {
           target-passes = record { checked-fine = refusal-fine (checked_in p target) 2 h.0; no-twins = twins-fine p target 2 h.1.1.0 };
           source-passes = record { checked-fine = refusal-fine (checked_in p source) 3 h.1.0; no-twins = twins-fine p source 3 h.1.1.1.0 };
@@ -112,7 +111,7 @@ module _ (p : Profile) (target source : List ℕ) (names : List Name) (depth : �
           room = unless-true (room_rule (length words / 20) (length lent)) 3 2 h.1.1.1.1.1.1.0;
         }
 
-    pub move-accepted : Passed p target source names depth lent → move_due p target source names depth lent ≡ Accepted (length words / 20)
+    pub move-accepted : Passed p target source names depth lent → move_due p target source names depth lent ≡ Ok (length words / 20)
     unfolding move_due first_refusal
     move-accepted P =
         rw (P.target-passes.checked-fine, P.source-passes.checked-fine, P.target-passes.no-twins, P.source-passes.no-twins, P.path, P.parent, P.room)
@@ -120,7 +119,7 @@ module _ (p : Profile) (target source : List ℕ) (names : List Name) (depth : �
     numbered-due : Numbered (move_due p target source names depth lent)
     unfolding move_due All
     numbered-due =
-        numbered-first (inputs ++ rest) (Accepted (length words / 20)) (numbered-refusal (checked_in p target) 2, (numbered-refusal (checked_in p source) 3, (numbered-twins (twins p target) 2, (numbered-twins (twins p source) 3, (numbered-unless (path_rule names depth) 5 0 (λ z. omega arith), (numbered-unless (parent_rule p target names depth) 4 0 (λ z. omega arith), (numbered-unless (room_rule (length words / 20) (length lent)) 3 2 (λ z. omega arith), tt)))))))
+        numbered-first (inputs ++ rest) (Ok (length words / 20)) (numbered-refusal (checked_in p target) 2, (numbered-refusal (checked_in p source) 3, (numbered-twins (twins p target) 2, (numbered-twins (twins p source) 3, (numbered-unless (path_rule names depth) 5 0 (λ z. omega arith), (numbered-unless (parent_rule p target names depth) 4 0 (λ z. omega arith), (numbered-unless (room_rule (length words / 20) (length lent)) 3 2 (λ z. omega arith), tt)))))))
         refl
 
     -- what is written as it is due meets the contract
@@ -131,14 +130,14 @@ module _ (p : Profile) (target source : List ℕ) (names : List Name) (depth : �
     }
 
     -- where the tables and the path pass, numbers 4 and 3 are left
-    pub passes : (a : ℕ) (result : List ℕ) (answer : Answer) → inputs_due p target source names depth ≡ Accepted a → CarriedOut p target source names depth lent result answer
+    pub passes : (a : ℕ) (result : List ℕ) (answer : Answer) → inputs_due p target source names depth ≡ Ok a → CarriedOut p target source names depth lent result answer
         → MoveContract p target source names depth lent result answer
     passes a result answer e W =
         let d : move_due p target source names depth lent ≡ rest_due p target source names depth lent = due-parts ∙ rw e in
         contract result answer (subst (λ (x : Answer). Written x words lent result answer) (sym d) W)
 
     -- where they do not, nothing is touched
-    pub stops : (answer : Answer) (n side a : ℕ) → answer ≡ inputs_due p target source names depth → answer ≡ Refused n side a → MoveContract p target source names depth lent lent answer
+    pub stops : (answer : Answer) (n side a : ℕ) → answer ≡ inputs_due p target source names depth → answer ≡ Err (refusal n side a) → MoveContract p target source names depth lent lent answer
     stops answer n side a e r =
         let d : move_due p target source names depth lent ≡ answer = due-parts ∙ rw (← e, r) in
         contract lent answer (record { answered = sym d; room = rw (d, r) })
@@ -150,6 +149,6 @@ module _ (p : Profile) (target source : List ℕ) (names : List Name) (depth : �
     carried-out w result answer h e W = rw (h, e) W
 
     -- it is none
-    pub no-parent : parent_rule p target names depth ≡ false → CarriedOut p target source names depth lent lent (Refused 4 0 0)
+    pub no-parent : parent_rule p target names depth ≡ false → CarriedOut p target source names depth lent lent (Err (refusal 4 0 0))
     unfolding first_refusal
     no-parent h = record { answered = rw h; room = rw h }

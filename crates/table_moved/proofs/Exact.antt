@@ -1,4 +1,5 @@
 -- Where every byte counts, a move is the one of the trees as they are named: no keys, and no number 16.
+use Rattle.std.proofs.Common.{Ok}
 use mathlib.Core.Path.{◌≡◌}
 use mathlib.Core.List.{List, [], ◌∷◌}
 use mathlib.Core.Bool.{cond}
@@ -12,9 +13,7 @@ use Rattle.settle.specs.Resume.{moved}
 use Rattle.settle.proofs.Spelled.{moved-exact}
 use Rattle.table_row.specs.Buffer.{over}
 use Rattle.table_row.specs.Tree.{table, tree_of}
-use Rattle.table_rules.specs.declared.Answer.{Answer}
-use Rattle.table_rules.specs.declared.Answer.TheVariants.{Accepted}
-use Rattle.table_rules.specs.Answer.{is_accepted}
+use Rattle.table_rules.specs.Answer.{is_accepted, Answer}
 use Rattle.table_rules.specs.Refusal.{refusal_of}
 use Rattle.table_rules.specs.Keyed.{twins}
 use Rattle.table_rules.specs.Faults.{first_refusal, unless, room_rule}
@@ -37,7 +36,7 @@ due_plain target source names depth lent =
     unless (is_folder (at (folder (tree_of target)) (parent_of names depth))) 4 0 ∷
     unless (room_rule (length (words_plain target source names depth) / 20) (length lent)) 3 2 ∷
     [])
-    (Accepted (length (words_plain target source names depth) / 20))
+    (Ok (length (words_plain target source names depth) / 20))
 
 -- a move of two tables as they are named
 pub move_plain : List ℕ → List ℕ → List Name → ℕ → List ℕ → MoveOutcome

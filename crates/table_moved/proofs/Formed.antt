@@ -1,4 +1,5 @@
 -- The result of a move is a table again: the moved tree of trees that are well formed in a profile is too, and its table passes.
+use Rattle.std.proofs.Common.{Ok}
 use mathlib.Core.Path.{◌≡◌}
 use mathlib.Core.List.{List, [], ◌∷◌}
 use mathlib.Core.Bool.{true}
@@ -11,7 +12,6 @@ use Rattle.tree.specs.declared.Profile.{Profile}
 use Rattle.tree.specs.Key.{FormedIn}
 use Rattle.settle.specs.Spelled.{moved_in}
 use Rattle.table_row.specs.Tree.{table, tree_of}
-use Rattle.table_rules.specs.declared.Answer.TheVariants.{Accepted}
 use Rattle.table_rules.specs.Keyed.{Passes}
 use Rattle.tree.proofs.Same.{and-true}
 use Rattle.table_row.proofs.Tree.{length-table, tree-table}
@@ -44,7 +44,7 @@ pub record Leaves (p : Profile) (target source : List ℕ) (names : List Name) (
   pub passes : Passes p (moved_words p target source names depth)
 
 pub leaves : (p : Profile) (target source : List ℕ) (names : List Name) (depth : ℕ) (lent : List ℕ) (a : ℕ) → Words32 target → Words32 source → Eights names
-    → move_due p target source names depth lent ≡ Accepted a → Leaves p target source names depth
+    → move_due p target source names depth lent ≡ Ok a → Leaves p target source names depth
 leaves p target source names depth lent a t32 s32 n8 e =
     let P : Passed p target source names depth lent = move-passed p target source names depth lent a e in
     let n = path-ruled names depth n8 P.path in

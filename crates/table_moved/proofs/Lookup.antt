@@ -1,4 +1,5 @@
 -- What a path leads to in a checked table: the row of a folder.
+use Rattle.std.proofs.Common.{Option, Some, None}
 use mathlib.Core.Path.{◌≡◌, refl, sym, ap, subst, ◌∙◌}
 use mathlib.Core.List.{List, ◌++◌}
 use mathlib.Core.Bool.{cond}
@@ -17,8 +18,6 @@ use Rattle.table_row.specs.Tree.{file_row, folder_row, rows_of, node_rows, root_
 use Rattle.table_rules.specs.Keyed.{Passes}
 use Rattle.table_rules.proofs.Passed.{passed-table, passed-formed}
 use Rattle.table_rules.proofs.Small.{small_all}
-use Rattle.table_find.specs.declared.Found.{Found}
-use Rattle.table_find.specs.declared.Found.TheVariants.{At, Nothing}
 use Rattle.table_find.specs.Entry.{Finds}
 use Rattle.table_follow.specs.Follow.{follow}
 use Rattle.table_stands.specs.Stands.{Stands, RuledNode, Holds, found_at}
@@ -39,12 +38,12 @@ slice-words w s = small_all w (λ k. omega (arith, s k))
 pub table-holds : (w : List ℕ) → Passes Exact w → Words32 w → Holds w 0 root_name (folder (tree_of w))
 table-holds w P s = rw (passed-table Exact w P) at (holds-table (tree_of w) (formed-exact (tree_of w) (passed-formed Exact w P s)))
 
-found-row : (y : Node) (i j : ℕ) → found_at y j ≡ At i → Present y × (j ≡ i)
+found-row : (y : Node) (i j : ℕ) → found_at y j ≡ Some i → Present y × (j ≡ i)
 found-row absent i j e = never (cc)
 found-row (file c) i j e = (tt, cc)
 found-row (folder k) i j e = (tt, cc)
 
-found_none : (y : Node) (j : ℕ) → found_at y j ≡ Nothing → y ≡ absent
+found_none : (y : Node) (j : ℕ) → found_at y j ≡ None → y ≡ absent
 found_none absent j e = refl
 found_none (file c) j e = never (cc)
 found_none (folder k) j e = never (cc)
@@ -62,7 +61,7 @@ kind_at w i d n (file c) h s u = ap kind (head w i (file_row d n c) s.rest s.her
 kind_at w i d n (folder k) h s u = ap kind (head w i (folder_row d n) (rows_of (suc d) k ++ s.rest) s.here).row
 
 -- a path looked up in a table
-module _ (w : List ℕ) (P : Passes Exact w) (s : Words32 w) (p : TreePath) (r : Found) (e : Finds w (follow p w) r) where
+module _ (w : List ℕ) (P : Passes Exact w) (s : Words32 w) (p : TreePath) (r : Option ℕ) (e : Finds w (follow p w) r) where
   abbrev f : Forest
   f = tree_of w
 
@@ -75,7 +74,7 @@ module _ (w : List ℕ) (P : Passes Exact w) (s : Words32 w) (p : TreePath) (r :
   found : r ≡ found_at y (row_in (folder f) p)
   found = e.answer ∙ follow-at p w 0 root_name (folder f) H
 
-  module _ (i : ℕ) (h : r ≡ At i) where
+  module _ (i : ℕ) (h : r ≡ Some i) where
     here : Present y × (row_in (folder f) p ≡ i)
     here = found-row y i (row_in (folder f) p) (sym found ∙ h)
 
@@ -86,24 +85,24 @@ module _ (w : List ℕ) (P : Passes Exact w) (s : Words32 w) (p : TreePath) (r :
     kind-here = kind_at w i (0 + length p) (name_on root_name p) y here.0 stands (ruled-at p (folder f) H.ruled)
 
     -- its row's kind tells whether it is a folder
-    pub folder-found : kind (row_at w i) ≡ 0 → Finds w (folder_at f p) (At i)
+    pub folder-found : kind (row_at w i) ≡ 0 → Finds w (folder_at f p) (Some i)
     unfolding folder_at
     folder-found z = record { answer = sym (go y here.0 (sym kind-here ∙ z)); inside = inside-at w r i h e.inside }
       where
-        go : (x : Node) → Present x → kind_of x ≡ 0 → cond (is_folder x) (At (row_in (folder f) p)) Nothing ≡ At i
+        go : (x : Node) → Present x → kind_of x ≡ 0 → cond (is_folder x) (Some (row_in (folder f) p)) None ≡ Some i
         go absent h k = absurd h
         go (file c) h k = absurd (omega arith)
-        go (folder j) h k = ap At here.1
+        go (folder j) h k = ap Some here.1
 
-    pub file-found : (kind (row_at w i) ≡ 0 → ⊥) → Finds w (folder_at f p) Nothing
+    pub file-found : (kind (row_at w i) ≡ 0 → ⊥) → Finds w (folder_at f p) None
     unfolding folder_at
     file-found z = record { answer = sym (go y (λ k. z (kind-here ∙ k))); inside = tt }
       where
-        go : (x : Node) → (kind_of x ≡ 0 → ⊥) → cond (is_folder x) (At (row_in (folder f) p)) Nothing ≡ Nothing
+        go : (x : Node) → (kind_of x ≡ 0 → ⊥) → cond (is_folder x) (Some (row_in (folder f) p)) None ≡ None
         go absent k = refl
         go (file c) k = refl
         go (folder j) k = absurd (k refl)
 
-  pub none_found : r ≡ Nothing → Finds w (folder_at f p) Nothing
+  pub none_found : r ≡ None → Finds w (folder_at f p) None
   unfolding folder_at
   none_found h = let z = found_none y (row_in (folder f) p) (sym found ∙ h) in record { answer = rw z; inside = tt }

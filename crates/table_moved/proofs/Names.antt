@@ -5,13 +5,13 @@ use native.Mathlib.Omega.{arith}
 use native.Mathlib.Nat.{le_of_suc-le-suc}
 use lib.ListN.{length, take, get_or}
 use Prim.Native.Nat.{ℕ, zero, suc, ◌-◌, ◌<◌}
+use Rattle.table_rules.specs.Answer.{Answer}
 use Rattle.tree.specs.Name.{Name}
 use Rattle.tree.specs.Forest.{TreePath}
 use Rattle.tree.specs.declared.Profile.{Profile}
 use Rattle.tree.specs.Key.{key, fold_path}
 use Rattle.tree.proofs.Keys.{key-idem}
 use Rattle.settle.specs.Spelled.{moved_in}
-use Rattle.table_rules.specs.declared.Answer.{Answer}
 use Rattle.table_moved.specs.Pieces.{CarriedOut}
 
 module _ (p : Profile) where

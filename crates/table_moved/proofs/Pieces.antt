@@ -1,5 +1,6 @@
 -- The words of a moved tree are three pieces: the target's before the path's entry, the source's spelled as the target's folder is, the
 -- target's behind it.
+use Rattle.std.proofs.Common.{Some, None}
 use mathlib.Core.Path.{◌≡◌, refl, sym, ap, ap₂, subst, ◌∙◌}
 use mathlib.Core.List.{List, [], ◌∷◌, ◌++◌, map}
 use mathlib.Core.Bool.{true, false, cond}
@@ -29,7 +30,6 @@ use Rattle.table_row.proofs.Tree.{length-rows}
 use Rattle.table_row.proofs.Keyed.{tree-keyed, length-keyed}
 use Rattle.table_rules.specs.Keyed.{Passes}
 use Rattle.table_rules.proofs.Passed.{passed-table, passed-formed, passed-whole, passed_words}
-use Rattle.table_find.specs.declared.Found.TheVariants.{At, Nothing}
 use Rattle.table_find.specs.Entry.{place}
 use Rattle.table_stands.specs.Stands.{Holds}
 use Rattle.table_stands.specs.Around.{entry_end, row_in, name_on}
@@ -54,21 +54,21 @@ path-last names zero h k = absurd (omega arith)
 path-last names (suc n) h k = rw sub-one (take-suc names n [] k)
 
 -- a folder that is found
-folder-there : (y : Node) (i j : ℕ) → cond (is_folder y) (At j) Nothing ≡ At i → ((k : Forest) × (y ≡ folder k)) × (j ≡ i)
+folder-there : (y : Node) (i j : ℕ) → cond (is_folder y) (Some j) None ≡ Some i → ((k : Forest) × (y ≡ folder k)) × (j ≡ i)
 folder-there absent i j e = never (cc)
 folder-there (file c) i j e = never (cc)
 folder-there (folder k) i j e = ((k, refl), cc)
 
-pub no-folder : (f : Forest) (q : TreePath) → folder_at f q ≡ Nothing → is_folder (at (folder f) q) ≡ false
+pub no-folder : (f : Forest) (q : TreePath) → folder_at f q ≡ None → is_folder (at (folder f) q) ≡ false
 unfolding folder_at
 no-folder f q = go (at (folder f) q)
   where
-    go : (y : Node) → cond (is_folder y) (At (row_in (folder f) q)) Nothing ≡ Nothing → is_folder y ≡ false
+    go : (y : Node) → cond (is_folder y) (Some (row_in (folder f) q)) None ≡ None → is_folder y ≡ false
     go absent e = refl
     go (file c) e = refl
     go (folder k) e = never (cc)
 
-pub is-folder : (f : Forest) (q : TreePath) (i : ℕ) → folder_at f q ≡ At i → is_folder (at (folder f) q) ≡ true
+pub is-folder : (f : Forest) (q : TreePath) (i : ℕ) → folder_at f q ≡ Some i → is_folder (at (folder f) q) ≡ true
 unfolding folder_at
 is-folder f q i e = rw (folder-there (at (folder f) q) i (row_in (folder f) q) e).0.1
 
@@ -103,7 +103,7 @@ module _ (p : Profile) where
       ap (λ (y : Node). respell_node p (folder f) (respell_node p (folder g) y)) (sym e)
 
   -- an entry n of the folder that stands at the path q, at row i
-  module _ (w : List ℕ) (P : Passes p w) (s : Words32 w) (q : TreePath) (n : Name) (h : length q + 1 ≤ 16) (i : ℕ) (e : folder_at (fold p (tree_of w)) (fold_path p q) ≡ At i) where
+  module _ (w : List ℕ) (P : Passes p w) (s : Words32 w) (q : TreePath) (n : Name) (h : length q + 1 ≤ 16) (i : ℕ) (e : folder_at (fold p (tree_of w)) (fold_path p q) ≡ Some i) where
     abbrev f : Forest
     f = tree_of w
 
@@ -192,7 +192,7 @@ module _ (p : Profile) where
 
 -- a path of keys, given as names and a depth: what its parent's row says of the move
 module _ (p : Profile) (w : List ℕ) (P : Passes p w) (s : Words32 w) (names : List Name) (K : map (key p) names ≡ names) (sixteen : length names ≡ 16) (depth : ℕ) (low : 1 ≤ depth) (high : depth ≤ 16)
-    (i : ℕ) (e : folder_at (tree_of (keyed p w)) (parent_of names depth) ≡ At i) (inside : 20 * (i + 1) ≤ length (keyed p w)) where
+    (i : ℕ) (e : folder_at (tree_of (keyed p w)) (parent_of names depth) ≡ Some i) (inside : 20 * (i + 1) ≤ length (keyed p w)) where
   abbrev q : TreePath
   q = parent_of names depth
 
@@ -208,7 +208,7 @@ module _ (p : Profile) (w : List ℕ) (P : Passes p w) (s : Words32 w) (names : 
   whole : path_of names depth ≡ q ++ (n ∷ [])
   whole = path-last names depth low (omega arith)
 
-  at-parent : folder_at (fold p (tree_of w)) (fold_path p q) ≡ At i
+  at-parent : folder_at (fold p (tree_of w)) (fold_path p q) ≡ Some i
   at-parent = rw (own, ← tree-keyed p w) e
 
   h : length q + 1 ≤ 16

@@ -1,4 +1,5 @@
 -- What the source holds at a path of keys: where its words are, and that they are rows that may be spelled anew.
+use Rattle.std.proofs.Common.{Option, Some, None}
 use mathlib.Core.Path.{◌≡◌, refl, sym, ap, subst, ◌∙◌}
 use mathlib.Core.List.{List, [], ◌∷◌, ◌++◌, append-nil}
 use native.Mathlib.Omega.{arith}
@@ -20,8 +21,6 @@ use Rattle.table_row.proofs.Keyed.{table-keyed}
 use Rattle.table_row.proofs.Tree.{rows-add}
 use Rattle.table_rules.specs.Keyed.{Passes}
 use Rattle.table_rules.proofs.Passed.{passed-table, passed-formed}
-use Rattle.table_find.specs.declared.Found.{Found}
-use Rattle.table_find.specs.declared.Found.TheVariants.{At, Nothing}
 use Rattle.table_find.specs.Subtree.{end_of}
 use Rattle.table_follow.specs.Follow.{follow}
 use Rattle.table_stands.specs.Stands.{RuledNode, Holds, found_at}
@@ -79,13 +78,13 @@ module _ (p : Profile) where
         there : (y : Node) → reach p (folder g) q ≡ y → Present y → take (S.to - S.from) (drop S.from w) ≡ words_at p g q
         there y z n =
             let m : Present (reach p (folder g) q) = subst Present (sym z) n in
-            let a : follow q u ≡ At i = e ∙ present-found (at (folder (fold p g)) q) i (present-at m) in
+            let a : follow q u ≡ Some i = e ∙ present-found (at (folder (fold p g)) q) i (present-at m) in
             let b : S ≡ record { from = 20 * i; to = 20 * end_of w i } = h.span ∙ rw (a, same_end m) in
             rw b (node-words p w P s q m)
 
         go : (y : Node) → reach p (folder g) q ≡ y → take (S.to - S.from) (drop S.from w) ≡ flat (node_rows (length q) (own_name p root_name (folder g) q) (reach p (folder g) q))
         go absent z =
-            let a : follow q u ≡ Nothing = e ∙ ap (λ (x : Node). found_at x i) (sym (reach-fold p q (folder g)) ∙ ap (fold_node p) z) in
+            let a : follow q u ≡ None = e ∙ ap (λ (x : Node). found_at x i) (sym (reach-fold p q (folder g)) ∙ ap (fold_node p) z) in
             let b : S ≡ record { from = 0; to = 0 } = h.span ∙ rw a in
             rw (b, z)
         go (file c) z = there (file c) z tt
@@ -149,8 +148,8 @@ module _ (p : Profile) where
         rw e at (within-reach q (16 - length q) (folder f) (rw (← z) F.within))
 
 -- what a search that comes to a row finds of a table, as places
-pub spans-at : (w : List ℕ) (f : Found) (i z : ℕ) → f ≡ At i → (z ≡ end_of w i) × (20 * z ≤ length w) → Spans w f (record { from = 20 * i; to = 20 * z })
+pub spans-at : (w : List ℕ) (f : Option ℕ) (i z : ℕ) → f ≡ Some i → (z ≡ end_of w i) × (20 * z ≤ length w) → Spans w f (record { from = 20 * i; to = 20 * z })
 spans-at w f i z e h = record { span = rw (e, h.0); first = omega (arith, h.0); last = h.1 }
 
-pub spans-none : (w : List ℕ) (f : Found) → f ≡ Nothing → Spans w f (record { from = 0; to = 0 })
+pub spans-none : (w : List ℕ) (f : Option ℕ) → f ≡ None → Spans w f (record { from = 0; to = 0 })
 spans-none w f e = record { span = rw e; first = omega arith; last = omega arith }

@@ -1,5 +1,5 @@
 -- A move: the target's subtree at a path becomes the source's, absence included; names are matched by a key.
-use Rattle.std.specs.Prelude.{◌≡◌, List, [], ◌∷◌, Bool, true, false, cond, length, ℕ, ◌/◌}
+use Rattle.std.specs.Prelude.{◌≡◌, List, [], ◌∷◌, Bool, true, false, cond, length, ℕ, ◌/◌, Ok}
 use Rattle.tree.specs.Name.{Name}
 use Rattle.tree.specs.Forest.{Node, Node.absent, Node.file, Node.folder, at}
 use Rattle.tree.specs.declared.Profile.{Profile}
@@ -7,9 +7,7 @@ use Rattle.tree.specs.Key.{fold, fold_path}
 use Rattle.settle.specs.Spelled.{moved_in}
 use Rattle.table_row.specs.Buffer.{over}
 use Rattle.table_row.specs.Tree.{table, tree_of}
-use Rattle.table_rules.specs.declared.Answer.{Answer}
-use Rattle.table_rules.specs.declared.Answer.TheVariants.{Accepted}
-use Rattle.table_rules.specs.Answer.{number_of, side_of, place_of, is_accepted, Says}
+use Rattle.table_rules.specs.Answer.{number_of, side_of, place_of, is_accepted, Says, Answer}
 use Rattle.table_rules.specs.Refusal.{refusal_of, twins_due}
 use Rattle.table_rules.specs.Keyed.{checked_in, twins}
 use Rattle.table_rules.specs.Faults.{first_refusal, unless, room_rule}
@@ -40,7 +38,7 @@ move_due p target source names depth lent =
     unless (parent_rule p target names depth) 4 0 ∷
     unless (room_rule (length (moved_words p target source names depth) / 20) (length lent)) 3 2 ∷
     [])
-    (Accepted (length (moved_words p target source names depth) / 20))
+    (Ok (length (moved_words p target source names depth) / 20))
 
 -- a move with the room lent to it: what is answered, and the room afterwards
 pub record MoveOutcome : Type 0 where

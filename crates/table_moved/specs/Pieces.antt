@@ -1,5 +1,5 @@
 -- A move in the words of tables: what is looked up, and the three pieces that the result is put together from.
-use Rattle.std.specs.Prelude.{◌≡◌, List, [], ◌∷◌, ◌++◌, map, Bool, cond, length, take, drop, ℕ, ◌+◌, ◌*◌, ◌-◌, ◌/◌, ◌%◌, ◌≤◌}
+use Rattle.std.specs.Prelude.{◌≡◌, List, [], ◌∷◌, ◌++◌, map, Bool, cond, length, take, drop, ℕ, ◌+◌, ◌*◌, ◌-◌, ◌/◌, ◌%◌, ◌≤◌, Option, Some, None, Ok}
 use Rattle.tree.specs.Name.{Name}
 use Rattle.tree.specs.Forest.{Forest, Node.folder, TreePath, at}
 use Rattle.tree.specs.Rules.{zeros, good_name}
@@ -9,14 +9,10 @@ use Rattle.tree.specs.Key.{key}
 use Rattle.table_row.specs.Buffer.{over}
 use Rattle.table_row.specs.Table.{rows}
 use Rattle.table_row.specs.Keyed.{keyed}
-use Rattle.table_rules.specs.declared.Answer.{Answer}
-use Rattle.table_rules.specs.declared.Answer.TheVariants.{Accepted}
-use Rattle.table_rules.specs.Answer.{is_accepted}
+use Rattle.table_rules.specs.Answer.{is_accepted, Answer}
 use Rattle.table_rules.specs.Refusal.{refusal_of, twins_due}
 use Rattle.table_rules.specs.Keyed.{checked_in, twins, Passes}
 use Rattle.table_rules.specs.Faults.{first_refusal, unless, room_rule}
-use Rattle.table_find.specs.declared.Found.{Found}
-use Rattle.table_find.specs.declared.Found.TheVariants.{At, Nothing}
 use Rattle.table_find.specs.Subtree.{end_of}
 use Rattle.table_find.specs.Entry.{place}
 use Rattle.table_follow.specs.Follow.{follow}
@@ -31,8 +27,8 @@ abbrev pub slot_rule : Bool → Name → Bool
 slot_rule within name = cond within (good_name name) (zeros name)
 
 -- the row of the folder at a path of a tree
-unfoldable pub folder_at : Forest → TreePath → Found
-folder_at f p = cond (is_folder (at (folder f) p)) (At (row_in (folder f) p)) Nothing
+unfoldable pub folder_at : Forest → TreePath → Option ℕ
+folder_at f p = cond (is_folder (at (folder f) p)) (Some (row_in (folder f) p)) None
 
 -- the words w, of which v are the keys, with those of the entry called n of the folder at row f changed to others, which are
 -- spelled as that folder is
@@ -55,11 +51,11 @@ pub record Ready (p : Profile) (w v : List ℕ) (f : ℕ) (n : Name) (words : Li
   pub order : place v f n ≤ entry_end v f n
 
 -- the words of the subtree at a row that was found, as places; none where there is none
-abbrev pub span_of : List ℕ → Found → Span
-span_of v (At i) = record { from = 20 * i; to = 20 * end_of v i }
-span_of v Nothing = record { from = 0; to = 0 }
+abbrev pub span_of : List ℕ → Option ℕ → Span
+span_of v (Some i) = record { from = 20 * i; to = 20 * end_of v i }
+span_of v None = record { from = 0; to = 0 }
 
-pub record Spans (v : List ℕ) (f : Found) (s : Span) : Type 0 where
+pub record Spans (v : List ℕ) (f : Option ℕ) (s : Span) : Type 0 where
   pub span : s ≡ span_of v f
   pub first : s.from ≤ s.to
   pub last : s.to ≤ length v
@@ -104,11 +100,11 @@ unfoldable pub inputs_due : Profile → List ℕ → List ℕ → List Name → 
 inputs_due p target source names depth =
     first_refusal
     (refusal_of (checked_in p target) 2 ∷ refusal_of (checked_in p source) 3 ∷ twins_due (twins p target) 2 ∷ twins_due (twins p source) 3 ∷ unless (path_rule names depth) 5 0 ∷ [])
-    (Accepted 0)
+    (Ok 0)
 
 -- what a result is due by its room: number 3
 abbrev pub room_due : List ℕ → List ℕ → Answer
-room_due words lent = first_refusal (unless (room_rule (length words / 20) (length lent)) 3 2 ∷ []) (Accepted (length words / 20))
+room_due words lent = first_refusal (unless (room_rule (length words / 20) (length lent)) 3 2 ∷ []) (Ok (length words / 20))
 
 -- the answer that is due, and the room afterwards: the words and what lay past them, or all as it was
 pub record Written (due : Answer) (words lent result : List ℕ) (answer : Answer) : Type 0 where

@@ -11,12 +11,10 @@ pub fn all_zero(s: &[u32]) -> bool
     ensures { result ≡ zeros s.now }
 {
     let mut zero = true;
-    let mut k = 0;
-    while k < s.len() {
-        if s[k] != 0 {
+    for &word in s {
+        if word != 0 {
             zero = false;
         }
-        k += 1;
     }
     zero
 }
@@ -72,8 +70,7 @@ fn filled_from(s: &[u32], from: usize) -> bool
     requires { (length s.now ≡ 8) × (from ≤ 32) }
     ensures { result ≡ zero_filled (drop from (bytes s.now)) }
 {
-    let mut k = from;
-    while k < 32 {
+    for k in from..32 {
         let b = byte_of(s[k / 4], k % 4);
         if b == 0 {
             return zeros_from(s, k);
@@ -81,7 +78,6 @@ fn filled_from(s: &[u32], from: usize) -> bool
         if b == 47 {
             return false;
         }
-        k += 1;
     }
     true
 }
@@ -141,16 +137,14 @@ fn zero_filled(s: &[u32]) -> bool
     requires { length s.now ≡ 8 }
     ensures { result ≡ zero_filled (bytes s.now) }
 {
-    let mut k = 0;
-    while k < 8 {
+    for k in 0..8 {
         if plain_word(s[k]) {
-            k += 1;
-        } else {
-            if plain_word(filled(s[k])) {
-                return all_zero(&s[k + 1..]);
-            }
-            return filled_from(s, 4 * k);
+            continue;
         }
+        if plain_word(filled(s[k])) {
+            return all_zero(&s[k + 1..]);
+        }
+        return filled_from(s, 4 * k);
     }
     true
 }

@@ -21,12 +21,8 @@ fn slot_ok(name: [u32; 8], within: bool) -> bool
 fn slots_ok(names: [[u32; 8]; 16], depth: usize) -> bool
     ensures { result ≡ slots depth names }
 {
-    let mut i = 0;
-    while i < 16 {
-        let name = names[i];
-        if slot_ok(name, i < depth) {
-            i += 1;
-        } else {
+    for i in 0..16 {
+        if !slot_ok(names[i], i < depth) {
             return false;
         }
     }
@@ -50,12 +46,9 @@ pub fn path_ok(names: [[u32; 8]; 16], depth: usize) -> bool
 pub fn key_names(names: [[u32; 8]; 16]) -> [[u32; 8]; 16]
     ensures { result ≡ map (key Folded) names }
 {
-    let mut keys = names;
-    let mut i = 0;
-    while i < 16 {
-        let name = names[i];
-        keys[i] = table_keys::key_name(tree::Profile::Folded, name);
-        i += 1;
-    }
-    keys
+    names.map(
+        |name: [u32; 8]| -> [u32; 8]
+            ensures { result ≡ key Folded name }
+        { table_keys::key_name(tree::Profile::Folded, name) },
+    )
 }

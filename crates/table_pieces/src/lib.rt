@@ -6,9 +6,8 @@ ghost use Rattle.table_row.specs.Buffer.{over};
 ghost use Rattle.table_respell.specs.Respell.{respelled};
 ghost use Rattle.table_moved.specs.Pieces.{pieces, Ready, Inputs, Joins, PutIn, CarriedOut};
 
-use table_find::Found;
 use table_moved::Span;
-use table_rules::Answer;
+use table_rules::{Answer, Refusal};
 use tree::Profile;
 
 // The target up to word a, words as entries of its folder at row f, and the target from word b on, at the start of the result.
@@ -48,13 +47,13 @@ fn put_in(
     let n = from + words.len() / 20 + (target.len() / 20 - to);
     if table_answers::has_room(n, res.len()) {
         join(profile, target, keys, f, 20 * from, words, 20 * to, res);
-        return Answer::Accepted { place: n };
+        return Ok(n);
     }
-    Answer::Refused {
+    Err(Refusal {
         number: 3,
         side: 2,
         place: 0,
-    }
+    })
 }
 
 // A move by the target's keys, a path of keys, and where the source has it: numbers 4 and 3.
@@ -71,17 +70,15 @@ pub fn carry_in(
     requires { Inputs profile target.now keys.now source.now span names depth }
     ensures { CarriedOut profile target.now source.now names depth res.old res.new result }
 {
-    match table_spans::parent_row(keys, names, depth) {
-        Found::At(f) => {
-            let name = names[depth - 1];
-            let from = span.from;
-            let to = span.to;
-            put_in(profile, target, keys, f, name, &source[from..to], res)
-        }
-        Found::Nothing => Answer::Refused {
+    let Some(f) = table_spans::parent_row(keys, names, depth) else {
+        return Err(Refusal {
             number: 4,
             side: 0,
             place: 0,
-        },
-    }
+        });
+    };
+    let name = names[depth - 1];
+    let from = span.from;
+    let to = span.to;
+    put_in(profile, target, keys, f, name, &source[from..to], res)
 }

@@ -10,13 +10,7 @@ fn up_to(t: &[u32], i: usize, name: [u32; 8]) -> bool
     requires { 20 * (i + 1) ≤ length t.now }
     ensures { result ≡ up_to name (name_of (row_at t.now i)) }
 {
-    let p = 20 * i + 2;
-    let e = p + 8;
-    match table_compare::compare_words(&name, &t[p..e]) {
-        table_row::Order::Less => true,
-        table_row::Order::Same => true,
-        table_row::Order::Greater => false,
-    }
+    table_compare::compare_words(&name, table_row::name(t, i)).is_le()
 }
 
 // Where the entry called name stands, or would be put in, in the folder at row f: the first entry whose name is not
@@ -27,8 +21,7 @@ pub fn place(t: &[u32], f: usize, name: [u32; 8]) -> usize
 {
     let n = t.len() / 20;
     let d = t[20 * f];
-    let mut i = f + 1;
-    while i < n {
+    for i in f + 1..n {
         let e = t[20 * i];
         if e <= d {
             return i;
@@ -36,7 +29,6 @@ pub fn place(t: &[u32], f: usize, name: [u32; 8]) -> usize
         if e - d == 1 && up_to(t, i, name) {
             return i;
         }
-        i += 1;
     }
-    i
+    n
 }

@@ -1,4 +1,5 @@
 -- An entry of a folder, and its counterpart in another table: what the counterpart is, and the name that is taken from it.
+use Rattle.std.proofs.Common.{Option, Some, None}
 use mathlib.Core.Path.{◌≡◌, refl, sym, ap, subst, ◌∙◌}
 use mathlib.Core.List.{List, [], ◌∷◌, ◌++◌}
 use lib.ListN.{length, drop}
@@ -15,8 +16,6 @@ use Rattle.tree.proofs.Folds.{entry-fold, key-spelling}
 use Rattle.tree.proofs.Respelled.{spelling-none, spelling-some}
 use Rattle.table_row.specs.Table.{row_at, name}
 use Rattle.table_row.specs.Tree.{file_row, folder_row, rows_of, node_rows}
-use Rattle.table_find.specs.declared.Found.{Found}
-use Rattle.table_find.specs.declared.Found.TheVariants.{At, Nothing}
 use Rattle.table_stands.specs.Stands.{Stands, Ruled, RuledNode, found_at}
 use Rattle.table_stands.specs.Around.{before}
 use Rattle.table_stands.proofs.Rows.{head}
@@ -26,18 +25,18 @@ use Rattle.table_stands.proofs.Keyed.{stands-entry}
 use Rattle.table_respell.specs.Respell.{counterpart, spelled}
 
 -- the name that a row called n takes
-abbrev pub called : List ℕ → Found → Name → Name
-called w (At i) n = name (row_at w i)
-called w Nothing n = n
+abbrev pub called : List ℕ → Option ℕ → Name → Name
+called w (Some i) n = name (row_at w i)
+called w None n = n
 
 -- rows with that name
-pub spelled-file : (w : List ℕ) (c : Found) (d : ℕ) (n : Name) (x : Content) → length n ≡ 8 → spelled w c (file_row d n x) ≡ file_row d (called w c n) x
-spelled-file w (At i) d n x h = rw (drop_at n (drop 1 x) 8 h)
-spelled-file w Nothing d n x h = refl
+pub spelled-file : (w : List ℕ) (c : Option ℕ) (d : ℕ) (n : Name) (x : Content) → length n ≡ 8 → spelled w c (file_row d n x) ≡ file_row d (called w c n) x
+spelled-file w (Some i) d n x h = rw (drop_at n (drop 1 x) 8 h)
+spelled-file w None d n x h = refl
 
-pub spelled-folder : (w : List ℕ) (c : Found) (d : ℕ) (n : Name) → length n ≡ 8 → spelled w c (folder_row d n) ≡ folder_row d (called w c n)
-spelled-folder w (At i) d n h = let z : List ℕ = 0 ∷ 0 ∷ 0 ∷ 0 ∷ 0 ∷ 0 ∷ 0 ∷ 0 ∷ 0 ∷ 0 ∷ [] in rw (drop_at n z 8 h)
-spelled-folder w Nothing d n h = refl
+pub spelled-folder : (w : List ℕ) (c : Option ℕ) (d : ℕ) (n : Name) → length n ≡ 8 → spelled w c (folder_row d n) ≡ folder_row d (called w c n)
+spelled-folder w (Some i) d n h = let z : List ℕ = 0 ∷ 0 ∷ 0 ∷ 0 ∷ 0 ∷ 0 ∷ 0 ∷ 0 ∷ 0 ∷ 0 ∷ [] in rw (drop_at n z 8 h)
+spelled-folder w None d n h = refl
 
 -- the name of a node that stands at a row
 stands-name : (w : List ℕ) (i d : ℕ) (n : Name) (x : Node) → Stands w i d n x → Present x → NameRule n → name (row_at w i) ≡ n
@@ -82,13 +81,13 @@ module _ (p : Profile) where
       pub sorted : SortedNode (fold_node p x)
 
     -- what a search for x found
-    abbrev pub Opens : ℕ → Node → Found → Type 0
-    Opens d absent f = f ≡ Nothing
-    Opens d (file c) f = (i : ℕ) × (f ≡ At i) × There d (file c) i
-    Opens d (folder k) f = (i : ℕ) × (f ≡ At i) × There d (folder k) i
+    abbrev pub Opens : ℕ → Node → Option ℕ → Type 0
+    Opens d absent f = f ≡ None
+    Opens d (file c) f = (i : ℕ) × (f ≡ Some i) × There d (file c) i
+    Opens d (folder k) f = (i : ℕ) × (f ≡ Some i) × There d (folder k) i
 
     -- a counterpart, and the name that is taken from it
-    abbrev Counter : ℕ → Node → Name → Name → Found → Type 0
+    abbrev Counter : ℕ → Node → Name → Name → Option ℕ → Type 0
     Counter d y n l c = Opens d y c × (called w c n ≡ l)
 
     -- an entry y of a folder stands there too
@@ -120,7 +119,7 @@ module _ (p : Profile) where
     counter-entry d i k n T (file c) e = let E = entry-there d i k n T (file c) e tt in ((i + 1 + size (before (key p n) (fold p k)), refl, E.0), E.1)
     counter-entry d i k n T (folder j) e = let E = entry-there d i k n T (folder j) e tt in ((i + 1 + size (before (key p n) (fold p k)), refl, E.0), E.1)
 
-    pub counter : (d : ℕ) (x : Node) (f : Found) (n : Name) → Opens d x f
+    pub counter : (d : ℕ) (x : Node) (f : Option ℕ) (n : Name) → Opens d x f
         → Counter (suc d) (entry p (key p n) (kids x)) n (spelling p (key p n) (kids x) n) (counterpart v f (key p n))
     unfolding entry spelling
     counter d absent f n o = rw o (refl, refl)

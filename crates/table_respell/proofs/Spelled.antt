@@ -1,4 +1,5 @@
 -- The rows of siblings, each spelled as its counterpart, are the rows of the siblings spelled as the folder is.
+use Rattle.std.proofs.Common.{Option, Some, None}
 use mathlib.Core.Path.{◌≡◌, refl, sym, ap, ◌∙◌}
 use mathlib.Core.List.{List, [], ◌∷◌, ◌++◌, append_assoc, append-nil}
 use native.Mathlib.Omega.{arith}
@@ -16,16 +17,14 @@ use Rattle.tree.proofs.Folds.{respell-exact}
 use Rattle.table_row.specs.Table.{Row, flat, depth, name}
 use Rattle.table_row.specs.Tree.{file_row, folder_row, rows_of}
 use Rattle.table_row.proofs.Flat.{rows-flat}
-use Rattle.table_find.specs.declared.Found.{Found}
-use Rattle.table_find.specs.declared.Found.TheVariants.{At, Nothing}
 use Rattle.table_stands.proofs.Forest.{file-name, folder-name, wide-rows_of, ruled-within}
 use Rattle.table_respell.specs.Respell.{counterpart, spelled, spelled_rows, respelled, Shallow}
 use Rattle.table_respell.proofs.Node.{There, Opens, counter, spelled-file, spelled-folder}
 
 -- a row of depth suc d called n
-module _ (p : Profile) (w v : List ℕ) (d : ℕ) (n : Name) (opened : List Found) where
-  abbrev noted : Found
-  noted = counterpart v (get_or opened d Nothing) (key p n)
+module _ (p : Profile) (w v : List ℕ) (d : ℕ) (n : Name) (opened : List (Option ℕ)) where
+  abbrev noted : Option ℕ
+  noted = counterpart v (get_or opened d None) (key p n)
 
   step : (r : Row) (rs : List Row) → depth r ≡ suc d → name r ≡ n
       → spelled_rows p w v opened (r ∷ rs) ≡ spelled w noted r ∷ spelled_rows p w v (set opened (suc d) noted) rs
@@ -33,11 +32,11 @@ module _ (p : Profile) (w v : List ℕ) (d : ℕ) (n : Name) (opened : List Foun
   step r rs e q = rw (e, q, sub-one)
 
   -- the rows above stay noted
-  noted-above : (i : ℕ) → i ≤ d → get_or (set opened (suc d) noted) i Nothing ≡ get_or opened i Nothing
-  noted-above i h = get_or-set_other opened (suc d) i noted Nothing (λ e. omega arith)
+  noted-above : (i : ℕ) → i ≤ d → get_or (set opened (suc d) noted) i None ≡ get_or opened i None
+  noted-above i h = get_or-set_other opened (suc d) i noted None (λ e. omega arith)
 
-  noted_here : length opened ≡ 17 → d ≤ 15 → get_or (set opened (suc d) noted) (suc d) Nothing ≡ noted
-  noted_here e h = get_or-set_same opened (suc d) noted Nothing (omega arith)
+  noted_here : length opened ≡ 17 → d ≤ 15 → get_or (set opened (suc d) noted) (suc d) None ≡ noted
+  noted_here e h = get_or-set_same opened (suc d) noted None (omega arith)
 
 -- a row, what comes beneath it, and what comes after that
 joined : (r : Row) (rows below mid gs rest : List Row) → rows ≡ below ++ mid → mid ≡ gs ++ rest → r ∷ rows ≡ r ∷ ((below ++ gs) ++ rest)
@@ -45,21 +44,21 @@ joined r rows below mid gs rest e q = ap (λ (z : List Row). r ∷ z) (e ∙ ap 
 
 module _ (p : Profile) (w v : List ℕ) where
   -- rows rs of depth suc d and more, before the rows qs, are spelled as gs
-  record Goes (d : ℕ) (opened : List Found) (rs gs qs : List Row) : Type 0 where
-    after : List Found
+  record Goes (d : ℕ) (opened : List (Option ℕ)) (rs gs qs : List Row) : Type 0 where
+    after : List (Option ℕ)
     size : length after ≡ 17
-    kept : (i : ℕ) → i ≤ d → get_or after i Nothing ≡ get_or opened i Nothing
+    kept : (i : ℕ) → i ≤ d → get_or after i None ≡ get_or opened i None
     gives : spelled_rows p w v opened (rs ++ qs) ≡ gs ++ spelled_rows p w v after qs
 
-  siblings : (j : ℕ) (k : Forest) → Within NameRule ContentRule j k → (d : ℕ) (x : Node) (opened : List Found) → d + j ≤ 16 → length opened ≡ 17
-      → Opens p w v d x (get_or opened d Nothing) → (qs : List Row) → Goes d opened (rows_of (suc d) k) (rows_of (suc d) (respell p (kids x) k)) qs
+  siblings : (j : ℕ) (k : Forest) → Within NameRule ContentRule j k → (d : ℕ) (x : Node) (opened : List (Option ℕ)) → d + j ≤ 16 → length opened ≡ 17
+      → Opens p w v d x (get_or opened d None) → (qs : List Row) → Goes d opened (rows_of (suc d) k) (rows_of (suc d) (respell p (kids x) k)) qs
   unfolding Within rows_of respell
   siblings j end W d x opened h l o qs = record { after = opened; size = l; kept = λ i z. refl; gives = refl }
   siblings zero (leaf n c s) W d x opened h l o qs = absurd W
   siblings (suc j) (leaf n c s) W d x opened h l o qs =
       let f = noted p w v d n opened in
       let u = noted-above p w v d n opened in
-      let C = counter p w v d x (get_or opened d Nothing) n o in
+      let C = counter p w v d x (get_or opened d None) n o in
       let G = siblings (suc j) s W.2 d x (set opened (suc d) f) h (length-set opened (suc d) f ∙ l) (rw (u d (omega arith)) o) qs in
       record {
         after = G.after;
@@ -73,7 +72,7 @@ module _ (p : Profile) (w v : List ℕ) where
   siblings (suc j) (dir n i s) W d x opened h l o qs =
       let f = noted p w v d n opened in
       let u = noted-above p w v d n opened in
-      let C = counter p w v d x (get_or opened d Nothing) n o in
+      let C = counter p w v d x (get_or opened d None) n o in
       let y = entry p (key p n) (kids x) in
       let K = siblings j i W.1 (suc d) y (set opened (suc d) f) (omega arith) (length-set opened (suc d) f ∙ l) (rw (noted_here p w v d n opened l (omega arith)) C.0) (rows_of (suc d) s ++ qs) in
       let G = siblings (suc j) s W.2 d x K.after h K.size (rw (K.kept d (omega arith), u d (omega arith)) o) qs in
@@ -94,9 +93,9 @@ unfolding respelled spelled_rows
 respelled-rows Exact w v f d j k g words T W h e = e ∙ rw (respell-exact k g)
 respelled-rows Folded w v f d j k g words T W h e =
     let r = rows-flat (rows_of (suc d) g) (wide-rows_of (suc d) g (ruled-within j g W)) in
-    let a : get_or (replicate 17 (At f)) d Nothing ≡ At f = get_or-replicate 17 d (At f) Nothing (omega arith) in
-    let G = siblings Folded w v j g W d (folder k) (replicate 17 (At f)) h (length-replicate 17 (At f)) (f, a, T) [] in
-    rw (e, r) (ap flat (ap (spelled_rows Folded w v (replicate 17 (At f))) (sym (append-nil (rows_of (suc d) g))) ∙ G.gives ∙ append-nil (rows_of (suc d) (respell Folded k g))))
+    let a : get_or (replicate 17 (Some f)) d None ≡ Some f = get_or-replicate 17 d (Some f) None (omega arith) in
+    let G = siblings Folded w v j g W d (folder k) (replicate 17 (Some f)) h (length-replicate 17 (Some f)) (f, a, T) [] in
+    rw (e, r) (ap flat (ap (spelled_rows Folded w v (replicate 17 (Some f))) (sym (append-nil (rows_of (suc d) g))) ∙ G.gives ∙ append-nil (rows_of (suc d) (respell Folded k g))))
 
 shallow-append : (rs qs : List Row) → Shallow rs → Shallow qs → Shallow (rs ++ qs)
 unfolding Shallow

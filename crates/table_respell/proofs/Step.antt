@@ -1,4 +1,5 @@
 -- A step of the loop: one row more is written, and its counterpart is noted.
+use Rattle.std.proofs.Common.{Option, Some, None}
 use mathlib.Core.Path.{◌≡◌, refl, sym, ap, ap₂, ◌∙◌}
 use mathlib.Core.List.{List, [], ◌∷◌, ◌++◌, append_assoc}
 use mathlib.Core.Bool.{Bool, true, false}
@@ -15,8 +16,6 @@ use Rattle.tree.specs.Key.{key}
 use Rattle.table_row.specs.Buffer.{written}
 use Rattle.table_row.specs.Table.{Row, row_at, rows, flat, depth, name}
 use Rattle.table_row.proofs.Table.{depth-at, name-at, name-length, rows-cons, rows-nil}
-use Rattle.table_find.specs.declared.Found.{Found}
-use Rattle.table_find.specs.declared.Found.TheVariants.{At, Nothing}
 use Rattle.table_find.specs.Entry.{Inside}
 use Rattle.table_respell.specs.Respell.{counterpart, spelled, spelled_rows, Shallow}
 
@@ -70,17 +69,11 @@ pub eight-words : (w : List ℕ) (i : ℕ) → 20 * (i + 1) ≤ length w → (le
     get_or w a 0 ∷ get_or w (a + 1) 0 ∷ get_or w (a + 2) 0 ∷ get_or w (a + 3) 0 ∷ get_or w (a + 4) 0 ∷ get_or w (a + 5) 0 ∷ get_or w (a + 6) 0 ∷ get_or w (a + 7) 0 ∷ []) ≡ name (row_at w i)
 eight-words w i h = eight w (20 * i + 2) (omega arith) ∙ sym (name-at w i)
 
-length-spelled : (w : List ℕ) (c : Found) (r : Row) → Inside w c → length r ≡ 20 → length (spelled w c r) ≡ 20
-length-spelled w (At i) r g h =
+length-spelled : (w : List ℕ) (c : Option ℕ) (r : Row) → Inside w c → length r ≡ 20 → length (spelled w c r) ≡ 20
+length-spelled w (Some i) r g h =
     let e = name-length w i (omega arith) in
     length-append (take 2 r) (name (row_at w i) ++ drop 10 r) ∙ rw (length-append (name (row_at w i)) (drop 10 r), length-take, length-drop) (omega arith)
-length-spelled w Nothing r g h = h
-
--- within a list, what is read past its end does not matter
-pub get_d_any : {A : Type 0} (l : List A) (i : ℕ) (a b : A) → i < length l → get_or l i a ≡ get_or l i b
-get_d_any [] i a b h = absurd (omega arith)
-get_d_any (x ∷ l) zero a b h = refl
-get_d_any (x ∷ l) (suc i) a b h = get_d_any l i a b (le_of_suc-le-suc h)
+length-spelled w None r g h = h
 
 shallow-head : (words : List ℕ) (i : ℕ) → i < length words / 20 → Shallow (drop i (rows words)) → (1 ≤ depth (row_at words i)) × (depth (row_at words i) ≤ 16) × Shallow (drop (i + 1) (rows words))
 unfolding Shallow
@@ -101,22 +94,22 @@ deep words i d h s e =
 
 -- the loop: what is written, and then the rows from row i on, are all the rows
 module _ (p : Profile) (w v words : List ℕ) where
-  abbrev rest : List Found → ℕ → List ℕ
+  abbrev rest : List (Option ℕ) → ℕ → List ℕ
   rest opened i = flat (spelled_rows p w v opened (drop i (rows words)))
 
-  module _ (opened : List Found) (i : ℕ) (h : i < length words / 20) where
+  module _ (opened : List (Option ℕ)) (i : ℕ) (h : i < length words / 20) where
     abbrev r : Row
     r = row_at words i
 
-    abbrev here : Found
-    here = counterpart v (get_or opened (depth r - 1) Nothing) (key p (name r))
+    abbrev here : Option ℕ
+    here = counterpart v (get_or opened (depth r - 1) None) (key p (name r))
 
     rest-cons : rest opened i ≡ spelled w here r ++ rest (set opened (depth r) here) (i + 1)
     unfolding spelled_rows flat
     rest-cons = rw (add-one i, rows-cons words i h)
 
     -- row i is written at its place
-    pub rest-next : (now next : List ℕ) (place d : ℕ) (c : Found) → d ≡ depth r → c ≡ counterpart v (get_or opened (d - 1) Nothing) (key p (name r))
+    pub rest-next : (now next : List ℕ) (place d : ℕ) (c : Option ℕ) → d ≡ depth r → c ≡ counterpart v (get_or opened (d - 1) None) (key p (name r))
         → next ≡ written now (place + 20 * i) (spelled w c r) → place + 20 * i ≤ length now → Inside w c → (all : List ℕ)
         → written now (place + 20 * i) (rest opened i) ≡ all → written next (place + 20 * (i + 1)) (rest (set opened d c) (i + 1)) ≡ all
     rest-next now next place d c D C N k g all q =
@@ -125,24 +118,24 @@ module _ (p : Profile) (w v words : List ℕ) where
         let e : rest opened i ≡ spelled w c r ++ rest (set opened d c) (i + 1) = rw (C, D) rest-cons in
         rw (N, z) (written-append now (spelled w c r) (rest (set opened d c) (i + 1)) (place + 20 * i) k ∙ rw (← e) q)
 
-  pub rest-none : (opened : List Found) (i : ℕ) → length words / 20 ≤ i → rest opened i ≡ []
+  pub rest-none : (opened : List (Option ℕ)) (i : ℕ) → length words / 20 ≤ i → rest opened i ≡ []
   unfolding spelled_rows flat
   rest-none opened i h = rw (rows-nil words i h)
 
 -- rows that are noted are the table's
-pub inside-set : (v : List ℕ) (opened : List Found) (d : ℕ) (c : Found) → d < length opened → Inside v c → ((k : ℕ) → Inside v (get_or opened k Nothing)) → (k : ℕ)
-    → Inside v (get_or (set opened d c) k Nothing)
+pub inside-set : (v : List ℕ) (opened : List (Option ℕ)) (d : ℕ) (c : Option ℕ) → d < length opened → Inside v c → ((k : ℕ) → Inside v (get_or opened k None)) → (k : ℕ)
+    → Inside v (get_or (set opened d c) k None)
 inside-set v opened d c h g a k = go (eqb k d) refl
   where
-    go : (b : Bool) → eqb k d ≡ b → Inside v (get_or (set opened d c) k Nothing)
-    go true e = rw (eqb-true k d e, get_or-set_same opened d c Nothing h) g
-    go false e = rw (get_or-set_other opened d k c Nothing (eqb-false k d e)) (a k)
+    go : (b : Bool) → eqb k d ≡ b → Inside v (get_or (set opened d c) k None)
+    go true e = rw (eqb-true k d e, get_or-set_same opened d c None h) g
+    go false e = rw (get_or-set_other opened d k c None (eqb-false k d e)) (a k)
 
-pub inside-all : (v : List ℕ) (c : Found) → Inside v c → (n k : ℕ) → Inside v (get_or (replicate n c) k Nothing)
+pub inside-all : (v : List ℕ) (c : Option ℕ) → Inside v c → (n k : ℕ) → Inside v (get_or (replicate n c) k None)
 inside-all v c g zero k = tt
 inside-all v c g (suc n) zero = g
 inside-all v c g (suc n) (suc k) = inside-all v c g n k
 
-pub inside-longer : (v w : List ℕ) (c : Found) → length v ≤ length w → Inside v c → Inside w c
-inside-longer v w (At i) h g = omega arith
-inside-longer v w Nothing h g = tt
+pub inside-longer : (v w : List ℕ) (c : Option ℕ) → length v ≤ length w → Inside v c → Inside w c
+inside-longer v w (Some i) h g = omega arith
+inside-longer v w None h g = tt

@@ -8,8 +8,6 @@ ghost use Rattle.table_row.specs.Table.{row_at, name, called};
 ghost use Rattle.table_find.specs.Entry.{Finds, Inside};
 ghost use Rattle.table_respell.specs.Respell.{counterpart as counterpart_of, spelled};
 
-use table_find::Found;
-
 // The name of row i.
 pub fn name_of(t: &[u32], i: usize) -> [u32; 8]
     requires { 20 * (i + 1) ≤ length t.now }
@@ -29,14 +27,11 @@ pub fn name_of(t: &[u32], i: usize) -> [u32; 8]
 }
 
 // The entry of a name's key in a folder that there may be.
-pub fn counterpart(keys: &[u32], folder: Found, key: [u32; 8]) -> Found
+pub fn counterpart(keys: &[u32], folder: Option<usize>, key: [u32; 8]) -> Option<usize>
     requires { Inside keys.now folder }
     ensures { Finds keys.now (counterpart_of keys.now folder key) result }
 {
-    match folder {
-        Found::At(i) => table_entry::find_child(keys, i, key),
-        Found::Nothing => Found::Nothing,
-    }
+    table_entry::find_child(keys, folder?, key)
 }
 
 // One row with another name.
@@ -50,18 +45,13 @@ fn put_named(src: &[u32], name: &[u32], res: &mut [u32], at: usize)
 }
 
 // One row, called as the row of the table that was found.
-pub fn spell_row(table: &[u32], found: Found, src: &[u32], res: &mut [u32], at: usize)
+pub fn spell_row(table: &[u32], found: Option<usize>, src: &[u32], res: &mut [u32], at: usize)
     requires { Inside table.now found × (length src.now ≡ 20) × (at + 20 ≤ length res.old) }
     ensures { res.new ≡ written res.old at (spelled table.now found src.now) }
 {
     match found {
-        Found::At(i) => {
-            prove!(i < table.len() / 20);
-            let a = 20 * i + 2;
-            let e = a + 8;
-            put_named(src, &table[a..e], res, at);
-        }
-        Found::Nothing => {
+        Some(i) => put_named(src, table_row::name(table, i), res, at),
+        None => {
             table_row::copy_words(src, res, at);
         }
     }

@@ -7,7 +7,6 @@ ghost use Rattle.tree.specs.Key.{key};
 ghost use Rattle.table_row.specs.Buffer.{written};
 ghost use Rattle.table_respell.specs.Respell.{respelled, Fit};
 
-use table_find::Found;
 use tree::Profile;
 
 // All rows of words, one after the other; a row's folder is the last row before it that is one less deep.
@@ -16,9 +15,8 @@ fn spell_rows(table: &[u32], keys: &[u32], f: usize, words: &[u32], res: &mut [u
     ensures { res.new ≡ written res.old at (respelled Folded table.now keys.now f words.now) }
 {
     let n = words.len() / 20;
-    let mut opened = [Found::At(f); 17];
-    let mut i = 0;
-    while i < n {
+    let mut opened = [Some(f); 17];
+    for i in 0..n {
         let a = 20 * i;
         let e = a + 20;
         let d = table_row::wide(words[a]);
@@ -27,7 +25,6 @@ fn spell_rows(table: &[u32], keys: &[u32], f: usize, words: &[u32], res: &mut [u
         let found = table_respell::counterpart(keys, folder, key);
         opened[d] = found;
         table_respell::spell_row(table, found, &words[a..e], res, at + a);
-        i += 1;
     }
 }
 

@@ -10,13 +10,10 @@ pub fn folder_of(t: &[u32], i: usize) -> usize
     ensures { result ≡ folder_of t.now i }
 {
     let d = table_row::word(t, i, 0);
-    let mut j = i;
-    while 0 < j {
-        let k = j - 1;
+    for k in (0..i).rev() {
         if table_row::word(t, k, 0) < d {
             return k;
         }
-        j = k;
     }
     0
 }

@@ -3,16 +3,8 @@
 
 ghost use Rattle.std.specs.Prelude.{◌≡◌, ◌+◌, ◌*◌, ◌≤◌, ◌<◌, length, get_or};
 ghost use Rattle.tree.specs.Same.{same_words};
-ghost use Rattle.table_row.specs.Table.{row_at};
+ghost use Rattle.table_row.specs.Table.{row_at, name};
 ghost use Rattle.table_row.specs.Buffer.{written};
-
-// How two names stand to each other.
-#[derive(Clone, Copy)]
-pub enum Order {
-    Less,
-    Same,
-    Greater,
-}
 
 // Word j of row i.
 pub fn word(t: &[u32], i: usize, j: usize) -> u32
@@ -37,9 +29,7 @@ pub fn same_words(a: &[u32], b: &[u32]) -> bool
     if a.len() != b.len() {
         return false;
     }
-    let mut k = a.len();
-    while k > 0 {
-        k -= 1;
+    for k in (0..a.len()).rev() {
         if a[k] != b[k] {
             return false;
         }
@@ -47,16 +37,32 @@ pub fn same_words(a: &[u32], b: &[u32]) -> bool
     true
 }
 
+// Row i.
+pub fn row(t: &[u32], i: usize) -> &[u32]
+    requires { 20 * i + 20 ≤ length t.now }
+    ensures { (result.now ≡ row_at t.now i) × (length result.now ≡ 20) }
+{
+    let a = 20 * i;
+    let e = a + 20;
+    &t[a..e]
+}
+
+// The name of row i.
+pub fn name(t: &[u32], i: usize) -> &[u32]
+    requires { 20 * i + 20 ≤ length t.now }
+    ensures { (result.now ≡ name (row_at t.now i)) × (length result.now ≡ 8) }
+{
+    let a = 20 * i + 2;
+    let e = a + 8;
+    &t[a..e]
+}
+
 // Whether row i of a and row j of b are the same.
 pub fn same_rows(a: &[u32], i: usize, b: &[u32], j: usize) -> bool
     requires { (20 * i + 20 ≤ length a.now) × (20 * j + 20 ≤ length b.now) }
     ensures { result ≡ same_words (row_at a.now i) (row_at b.now j) }
 {
-    let p = 20 * i;
-    let pe = p + 20;
-    let q = 20 * j;
-    let qe = q + 20;
-    same_words(&a[p..pe], &b[q..qe])
+    same_words(row(a, i), row(b, j))
 }
 
 // All of src into dst at place at; the next place.
@@ -64,10 +70,7 @@ pub fn copy_words(src: &[u32], dst: &mut [u32], at: usize) -> usize
     requires { at + length src.now ≤ length dst.old }
     ensures { (result ≡ at + length src.now) × (dst.new ≡ written dst.old at src.now) }
 {
-    let mut i = 0;
-    while i < src.len() {
-        dst[at + i] = src[i];
-        i += 1;
-    }
-    at + src.len()
+    let end = at + src.len();
+    dst[at..end].copy_from_slice(src);
+    end
 }

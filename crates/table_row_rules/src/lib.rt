@@ -9,7 +9,7 @@ ghost use Rattle.table_row.specs.Order.{ordered};
 ghost use Rattle.table_row.specs.Table.{row_at, name};
 ghost use Rattle.table_rules.specs.Rules.{depth_rule, kind_rule};
 
-use table_row::Order;
+use std::cmp::Ordering;
 use tree::Profile;
 
 // Whether row i is not too deep, for any row and for the row before it.
@@ -34,12 +34,8 @@ pub fn name_ok(t: &[u32], i: usize) -> bool
     requires { 20 * i + 20 ≤ length t.now }
     ensures { result ≡ good_name (name (row_at t.now i)) }
 {
-    let p = 20 * i + 2;
-    let q = p + 8;
-    if table_names::short_name(&t[p..q]) {
-        return true;
-    }
-    table_names::good_name(&t[p..q])
+    let name = table_row::name(t, i);
+    table_names::short_name(name) || table_names::good_name(name)
 }
 
 // Whether row i is a file's, or a folder's with no size and no digest.
@@ -57,13 +53,9 @@ pub fn kind_ok(t: &[u32], i: usize) -> bool
 }
 
 // The order of the names of rows i and j by their keys.
-pub fn compare_rows(profile: Profile, t: &[u32], i: usize, j: usize) -> Order
+pub fn compare_rows(profile: Profile, t: &[u32], i: usize, j: usize) -> Ordering
     requires { (20 * i + 20 ≤ length t.now) × (20 * j + 20 ≤ length t.now) }
     ensures { result ≡ ordered (cmp (key profile (name (row_at t.now i))) (key profile (name (row_at t.now j)))) }
 {
-    let p = 20 * i + 2;
-    let pe = p + 8;
-    let q = 20 * j + 2;
-    let qe = q + 8;
-    table_compare::compare_keys(profile, &t[p..pe], &t[q..qe])
+    table_compare::compare_keys(profile, table_row::name(t, i), table_row::name(t, j))
 }

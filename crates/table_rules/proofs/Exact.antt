@@ -6,7 +6,7 @@ use Prim.Native.Nat.{ℕ, compare, Ordering}
 use Rattle.tree.specs.Name.{Name, cmp, by_order}
 use Rattle.tree.specs.declared.Profile.TheVariants.{Exact}
 use Rattle.tree.specs.Key.{key}
-use Rattle.table_row.specs.declared.Order.TheVariants.{Less}
+use Rattle.std.specs.declared.cmp.Ordering.TheVariants.{Less}
 use Rattle.table_row.specs.Order.{ordered}
 use Rattle.table_row.specs.Table.{Row, rows, depth, name}
 use Rattle.table_rules.proofs.Plain.{ascends, ok_row, lead, checked}

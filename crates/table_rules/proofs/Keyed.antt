@@ -16,8 +16,8 @@ use Rattle.tree.specs.Key.{key}
 use Rattle.tree.proofs.Keys.{good-key, zeros-same}
 use Rattle.tree.proofs.Never.{never}
 use Rattle.tree.proofs.Same.{and-true}
-use Rattle.table_row.specs.declared.Order.{Order}
-use Rattle.table_row.specs.declared.Order.TheVariants.{Less, Same, Greater}
+use Rattle.std.specs.declared.cmp.Ordering.{Ordering as Order}
+use Rattle.std.specs.declared.cmp.Ordering.TheVariants.{Less, Equal, Greater}
 use Rattle.table_row.specs.Order.{ordered}
 use Rattle.table_row.specs.Table.{Row, rows, depth, name}
 use Rattle.table_row.specs.Keyed.{keyed_row, keyed}
@@ -35,13 +35,13 @@ use Rattle.table_rules.proofs.Tests.{AllBy, lowest-all, all-lowest}
 
 abbrev is_less : Order → Bool
 is_less Less = true
-is_less Same = false
+is_less Equal = false
 is_less Greater = false
 
 -- where every byte counts, a row that may follow has no twin
 no-twin : (o : Order) → in_order Exact o ≡ true → not (is_same o) ≡ true
 no-twin Less e = refl
-no-twin Same e = never (cc)
+no-twin Equal e = never (cc)
 no-twin Greater e = refl
 
 no-twins : (ps rs : List Row) → AllBy (ok_row_in Exact) ps rs → AllBy (no_twin Exact) ps rs
@@ -75,10 +75,10 @@ module _ (p : Profile) where
     where
       go : (p : Profile) (o : Order) → (in_order p o && not (is_same o)) ≡ is_less o
       go Exact Less = refl
-      go Exact Same = refl
+      go Exact Equal = refl
       go Exact Greater = refl
       go Folded Less = refl
-      go Folded Same = refl
+      go Folded Equal = refl
       go Folded Greater = refl
 
   ascends-keyed : (d : ℕ) (n : Name) (ps : List Row) → Whole ps → is_less (sibling p d n ps) ≡ ascends d (key p n) (map (keyed_row p) ps)

@@ -1,4 +1,5 @@
 -- A table of which none of 1, 2 and 16 is due: what the answers to it say.
+use Rattle.std.proofs.Common.{Ok}
 use mathlib.Core.Path.{◌≡◌, refl}
 use mathlib.Core.List.{List, []}
 use mathlib.Core.Bool.{Bool, true, false, cond}
@@ -9,11 +10,9 @@ use Rattle.tree.specs.declared.Profile.{Profile}
 use Rattle.tree.specs.declared.Profile.TheVariants.{Exact, Folded}
 use Rattle.tree.proofs.Never.{never}
 use Rattle.table_row.specs.Table.{rows}
-use Rattle.table_rules.specs.declared.Answer.{Answer}
-use Rattle.table_rules.specs.declared.Answer.TheVariants.{Accepted}
 use Rattle.table_rules.specs.declared.Checked.{Checked}
 use Rattle.table_rules.specs.declared.Checked.TheVariants.{Fine, BadLength, BadRow}
-use Rattle.table_rules.specs.Answer.{is_accepted}
+use Rattle.table_rules.specs.Answer.{is_accepted, Answer}
 use Rattle.table_rules.specs.Refusal.{refusal_of, twins_due}
 use Rattle.table_rules.specs.Faults.{first_refusal}
 use Rattle.table_rules.specs.Keyed.{no_twin, lead_by, lowest, checked_in, twins, Passes}
@@ -51,6 +50,6 @@ module _ (p : Profile) (w : List ℕ) where
       let b = first-both (refusal_of (checked_in p w) 1) (twins_due (twins p w) 1) h in
       record { checked-fine = refusal-fine (checked_in p w) 1 b.0; no-twins = twins-fine p w 1 b.1 }
 
-  pub passes-check : Passes p w → check_due p w ≡ Accepted 0
+  pub passes-check : Passes p w → check_due p w ≡ Ok 0
   unfolding check_due first_refusal
   passes-check P = rw (P.checked-fine, P.no-twins)

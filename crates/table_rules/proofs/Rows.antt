@@ -13,8 +13,8 @@ use Rattle.tree.specs.declared.Profile.{Profile}
 use Rattle.tree.specs.declared.Profile.TheVariants.{Exact, Folded}
 use Rattle.tree.specs.Rules.{zeros, good_name}
 use Rattle.table_row.specs.Table.{Row, row_at, rows, depth, kind, name}
-use Rattle.table_row.specs.declared.Order.{Order}
-use Rattle.table_row.specs.declared.Order.TheVariants.{Less, Same, Greater}
+use Rattle.std.specs.declared.cmp.Ordering.{Ordering as Order}
+use Rattle.std.specs.declared.cmp.Ordering.TheVariants.{Less, Equal, Greater}
 use Rattle.tree.proofs.Never.{never}
 use Rattle.table_row.proofs.Table.{rows-cons, rows-nil}
 use Rattle.table_rules.specs.Rules.{depth_rule, kind_rule, sized, before}
@@ -52,8 +52,8 @@ fit-turns p false b c o = refl
 fit-turns p true false c o = refl
 fit-turns p true true false o = refl
 fit-turns p true true true Less = refl
-fit-turns Exact true true true Same = refl
-fit-turns Folded true true true Same = refl
+fit-turns Exact true true true Equal = refl
+fit-turns Folded true true true Equal = refl
 fit-turns p true true true Greater = refl
 
 -- row 0, and any other

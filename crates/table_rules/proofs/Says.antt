@@ -1,16 +1,16 @@
 -- Answers: number, side and place fix one, and those that are due are numbers of a refusal.
-use mathlib.Core.Path.{◌≡◌, refl, sym, ◌∙◌}
+use Rattle.std.proofs.Common.{Ok, Err}
+use mathlib.Core.Path.{◌≡◌, refl, sym, ap, ◌∙◌}
 use mathlib.Core.List.{List, [], ◌∷◌}
 use mathlib.Core.Bool.{Bool, true, false}
 use lib.Dec.{eqb}
 use Prim.Native.Nat.{ℕ}
 use borrow.Author.Tests.{ne_eqb}
 use Rattle.tree.specs.declared.Profile.{Profile}
-use Rattle.table_rules.specs.declared.Answer.{Answer}
-use Rattle.table_rules.specs.declared.Answer.TheVariants.{Accepted, Refused}
 use Rattle.table_rules.specs.declared.Checked.{Checked}
 use Rattle.table_rules.specs.declared.Checked.TheVariants.{Fine, BadLength, BadRow}
-use Rattle.table_rules.specs.Answer.{number_of, side_of, place_of, is_accepted, Says}
+use Rattle.table_rules.specs.declared.Refusal.{Refusal}
+use Rattle.table_rules.specs.Answer.{number_of, side_of, place_of, is_accepted, Says, Answer, refusal}
 use Rattle.table_rules.specs.Faults.{first_refusal, unless}
 use Rattle.table_rules.specs.Keyed.{checked_in, twins}
 use Rattle.table_rules.specs.Contract.{check_due}
@@ -18,14 +18,15 @@ use Rattle.table_rules.specs.Refusal.{refusal_of, twins_due}
 
 -- two answers that say the same are the same
 pub says-one : (a b : Answer) {number side place : ℕ} → Says a number side place → Says b number side place → a ≡ b
-says-one (Accepted p) (Accepted q) A B = let e : p ≡ q = A.place-due ∙ sym B.place-due in cc
-says-one (Accepted p) (Refused n s q) A B = cc (A.accepted, B.accepted)
-says-one (Refused n s p) (Accepted q) A B = cc (A.accepted, B.accepted)
-says-one (Refused n s p) (Refused m t q) A B =
-    let e : n ≡ m = A.number-due ∙ sym B.number-due in
-    let f : s ≡ t = A.side-due ∙ sym B.side-due in
-    let g : p ≡ q = A.place-due ∙ sym B.place-due in
-    cc
+says-one (Ok p) (Ok q) A B = let e : p ≡ q = A.place-due ∙ sym B.place-due in cc
+says-one (Ok p) (Err r) A B = cc (A.accepted, B.accepted)
+says-one (Err r) (Ok q) A B = cc (A.accepted, B.accepted)
+says-one (Err r) (Err t) A B =
+    let e = A.number-due ∙ sym B.number-due in
+    let f = A.side-due ∙ sym B.side-due in
+    let g = A.place-due ∙ sym B.place-due in
+    let h : refusal r.number r.side r.place ≡ refusal t.number t.side t.place = rw (e, f, g) refl in
+    ap (λ (x : Refusal). Err x) h
 
 -- an answer whose number is 0 exactly where it is an acceptance
 abbrev pub Numbered : Answer → Type 0
@@ -56,8 +57,8 @@ All P (a ∷ more) = P a × All P more
 pub numbered-first : (xs : List Answer) (last : Answer) → All Numbered xs → Numbered last → Numbered (first_refusal xs last)
 unfolding first_refusal All
 numbered-first [] last h k = k
-numbered-first (Accepted p ∷ more) last h k = numbered-first more last h.1 k
-numbered-first (Refused n s p ∷ more) last h k = h.0
+numbered-first (Ok p ∷ more) last h k = numbered-first more last h.1 k
+numbered-first (Err r ∷ more) last h k = h.0
 
 pub numbered-check : (p : Profile) (t : List ℕ) → Numbered (check_due p t)
 unfolding check_due All

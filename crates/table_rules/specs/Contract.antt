@@ -1,8 +1,7 @@
 -- What a check of a table promises.
 use Rattle.std.specs.Prelude.{List, [], ◌∷◌, ℕ}
 use Rattle.tree.specs.declared.Profile.{Profile}
-use Rattle.table_rules.specs.declared.Answer.{Answer}
-use Rattle.table_rules.specs.Answer.{number_of, side_of, place_of, Says}
+use Rattle.table_rules.specs.Answer.{number_of, side_of, place_of, Says, Answer}
 use Rattle.table_rules.specs.Faults.{first_refusal}
 use Rattle.table_rules.specs.Keyed.{checked_in, twins}
 use Rattle.table_rules.specs.Refusal.{refusal_of, twins_due}

@@ -1,10 +1,9 @@
 -- What a check answers for siblings that are alike, or alike but for letter case, in both profiles.
-use Rattle.std.specs.Prelude.{◌≡◌, List, [], ◌∷◌, map, ℕ}
+use Rattle.table_rules.specs.Answer.{Answer, refusal}
+use Rattle.std.specs.Prelude.{◌≡◌, List, [], ◌∷◌, map, ℕ, Ok, Err}
 use Rattle.tree.specs.declared.Profile.TheVariants.{Exact, Folded}
 use Rattle.table_row.specs.Table.{Row, flat}
 use Rattle.table_row.specs.Tree.{folder_row, root_name}
-use Rattle.table_rules.specs.declared.Answer.{Answer}
-use Rattle.table_rules.specs.declared.Answer.TheVariants.{Accepted, Refused}
 use Rattle.table_rules.specs.Contract.{check_due}
 
 -- a folder called by one byte, in the root
@@ -49,25 +48,25 @@ pair rs x y = record { entries = rs; exact = x; folded = y }
 abbrev pub pairs : List Pair
 pairs =
     -- two of one key: the row of the second
-    pair (A ∷ a ∷ []) (Accepted 0) (Refused 16 1 2) ∷
-    pair (a ∷ A ∷ []) (Refused 2 1 2) (Refused 16 1 2) ∷
+    pair (A ∷ a ∷ []) (Ok 0) (Err (refusal 16 1 2)) ∷
+    pair (a ∷ A ∷ []) (Err (refusal 2 1 2)) (Err (refusal 16 1 2)) ∷
     -- spelled alike
-    pair (a ∷ a ∷ []) (Refused 2 1 2) (Refused 16 1 2) ∷
+    pair (a ∷ a ∷ []) (Err (refusal 2 1 2)) (Err (refusal 16 1 2)) ∷
     -- out of order is 2, also where it equals an earlier one
-    pair (a ∷ b ∷ A ∷ []) (Refused 2 1 3) (Refused 2 1 3) ∷
-    pair (b ∷ a ∷ []) (Refused 2 1 2) (Refused 2 1 2) ∷
+    pair (a ∷ b ∷ A ∷ []) (Err (refusal 2 1 3)) (Err (refusal 2 1 3)) ∷
+    pair (b ∷ a ∷ []) (Err (refusal 2 1 2)) (Err (refusal 2 1 2)) ∷
     -- of several the lowest second row
-    pair (a ∷ A ∷ a ∷ []) (Refused 2 1 2) (Refused 16 1 2) ∷
+    pair (a ∷ A ∷ a ∷ []) (Err (refusal 2 1 2)) (Err (refusal 16 1 2)) ∷
     -- a later 2 goes before an earlier 16
-    pair (A ∷ a ∷ b ∷ a ∷ []) (Refused 2 1 4) (Refused 2 1 4) ∷
+    pair (A ∷ a ∷ b ∷ a ∷ []) (Err (refusal 2 1 4)) (Err (refusal 2 1 4)) ∷
     -- rows beneath the first don't matter
-    pair (A ∷ within ∷ a ∷ []) (Accepted 0) (Refused 16 1 3) ∷
+    pair (A ∷ within ∷ a ∷ []) (Ok 0) (Err (refusal 16 1 3)) ∷
     -- the order is that of the keys
-    pair (a ∷ B ∷ []) (Refused 2 1 2) (Accepted 0) ∷
-    pair (B ∷ a ∷ []) (Accepted 0) (Refused 2 1 2) ∷
-    pair (line ∷ B ∷ []) (Refused 2 1 2) (Accepted 0) ∷
-    pair (B ∷ line ∷ []) (Accepted 0) (Refused 2 1 2) ∷
-    pair (bracket ∷ a ∷ []) (Accepted 0) (Accepted 0) ∷
+    pair (a ∷ B ∷ []) (Err (refusal 2 1 2)) (Ok 0) ∷
+    pair (B ∷ a ∷ []) (Ok 0) (Err (refusal 2 1 2)) ∷
+    pair (line ∷ B ∷ []) (Err (refusal 2 1 2)) (Ok 0) ∷
+    pair (B ∷ line ∷ []) (Ok 0) (Err (refusal 2 1 2)) ∷
+    pair (bracket ∷ a ∷ []) (Ok 0) (Ok 0) ∷
     []
 
 abbrev pub PairsHold : Type 0

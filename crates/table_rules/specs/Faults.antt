@@ -1,8 +1,6 @@
 -- The order of faults: of several checks the first that fails gives the answer. And the check of a result's room.
-use Rattle.std.specs.Prelude.{List, [], ◌∷◌, Bool, true, false, cond, ◌&&◌, leb, ℕ, ◌/◌}
-use Rattle.table_rules.specs.declared.Answer.{Answer}
-use Rattle.table_rules.specs.declared.Answer.TheVariants.{Accepted, Refused}
-use Rattle.table_rules.specs.Answer.{is_accepted}
+use Rattle.std.specs.Prelude.{List, [], ◌∷◌, Bool, true, false, cond, ◌&&◌, leb, ℕ, ◌/◌, Ok, Err}
+use Rattle.table_rules.specs.Answer.{is_accepted, Answer, refusal}
 
 -- the first refusal among some answers; where there is none, the last answer
 unfoldable pub first_refusal : List Answer → Answer → Answer
@@ -11,8 +9,8 @@ first_refusal (a ∷ more) last = cond (is_accepted a) (first_refusal more last)
 
 -- a check that has no place
 abbrev pub unless : Bool → ℕ → ℕ → Answer
-unless true number side = Accepted 0
-unless false number side = Refused number side 0
+unless true number side = Ok 0
+unless false number side = Err (refusal number side 0)
 
 -- number 3: a result of n rows has at most 4,096, and at most the whole rows of the words lent
 unfoldable pub room_rule : ℕ → ℕ → Bool

@@ -6,8 +6,8 @@ use Rattle.tree.specs.Rules.{zeros, good_name}
 use Rattle.tree.specs.declared.Profile.{Profile}
 use Rattle.tree.specs.declared.Profile.TheVariants.{Exact, Folded}
 use Rattle.tree.specs.Key.{key}
-use Rattle.table_row.specs.declared.Order.{Order}
-use Rattle.table_row.specs.declared.Order.TheVariants.{Less, Same, Greater}
+use Rattle.std.specs.declared.cmp.Ordering.{Ordering as Order}
+use Rattle.std.specs.declared.cmp.Ordering.TheVariants.{Less, Equal, Greater}
 use Rattle.table_row.specs.Order.{ordered}
 use Rattle.table_row.specs.Table.{Row, rows, depth, name}
 use Rattle.table_rules.specs.declared.Checked.{Checked}
@@ -23,8 +23,8 @@ sibling p d n (q ∷ ps) = by_order (compare (depth q) d) Less (ordered (cmp (ke
 -- siblings ascend by key. Two of one key are number 2 where every byte counts; where letter case is ignored they are number 16
 abbrev pub in_order : Profile → Order → Bool
 in_order p Less = true
-in_order Exact Same = false
-in_order Folded Same = true
+in_order Exact Equal = false
+in_order Folded Equal = true
 in_order p Greater = false
 
 -- row r may follow the rows ps, the nearest first, as far as number 2 goes; where there is none, r is row 0: a folder of
@@ -35,7 +35,7 @@ ok_row_in p (q ∷ ps) r = depth_rule q r && good_name (name r) && kind_rule r &
 
 abbrev pub is_same : Order → Bool
 is_same Less = false
-is_same Same = true
+is_same Equal = true
 is_same Greater = false
 
 -- the sibling before has another key

@@ -2,8 +2,8 @@
 use Rattle.std.specs.Prelude.{◌≡◌, List, cond, ℕ}
 use Rattle.tree.specs.declared.Profile.{Profile}
 use Rattle.tree.specs.declared.Profile.TheVariants.{Exact, Folded}
-use Rattle.table_row.specs.declared.Order.{Order}
-use Rattle.table_row.specs.declared.Order.TheVariants.{Less, Same, Greater}
+use Rattle.std.specs.declared.cmp.Ordering.{Ordering as Order}
+use Rattle.std.specs.declared.cmp.Ordering.TheVariants.{Less, Equal, Greater}
 use Rattle.table_row.specs.Table.{Row}
 use Rattle.table_rules.specs.declared.Checked.{Checked}
 use Rattle.table_rules.specs.declared.Checked.TheVariants.{Fine, BadLength, BadRow}
@@ -15,8 +15,8 @@ use Rattle.table_rules.specs.Keyed.{ok_row_in, no_twin, lowest, checked_in, twin
 -- after a sibling that stands so to a row, as far as the two go
 abbrev pub fit_after : Profile → Order → Fit
 fit_after p Less = Good
-fit_after Exact Same = Bad
-fit_after Folded Same = Twin
+fit_after Exact Equal = Bad
+fit_after Folded Equal = Twin
 fit_after p Greater = Bad
 
 -- after all the rows before

@@ -1,18 +1,17 @@
 // The answer of a call with one place, and what a check of a table finds.
 #![tactic(auto)]
 
-// The answer of a call that has one place.
+// Why a call is refused, by its number, and the side and the place that it is about. The number is a word of each call's
+// answer in C.
 #[derive(Clone, Copy)]
-pub enum Answer {
-    Accepted {
-        place: usize,
-    },
-    Refused {
-        number: u32,
-        side: u32,
-        place: usize,
-    },
+pub struct Refusal {
+    pub number: u32,
+    pub side: u32,
+    pub place: usize,
 }
+
+// The answer of a call that has one place.
+pub type Answer = Result<usize, Refusal>;
 
 // What a check of a table finds.
 #[derive(Clone, Copy)]

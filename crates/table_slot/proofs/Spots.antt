@@ -1,4 +1,5 @@
 -- Where a name goes in a folder that stands in a table: to its place, if the folder has no entry of that name.
+use Rattle.std.proofs.Common.{Option, Some, None}
 use mathlib.Core.Path.{◌≡◌, refl, sym, ◌∙◌}
 use mathlib.Core.List.{List, [], ◌∷◌, ◌++◌, append_assoc}
 use native.Mathlib.Omega.{arith}
@@ -24,23 +25,21 @@ use Rattle.table_stands.proofs.Forest.{file-name, folder-name}
 use Rattle.table_stands.proofs.Entry.{folder-place, stands-child}
 use Rattle.table_stands.proofs.Path.{ruled-find}
 use Rattle.table_slot.specs.Insert.{against, spot_in, searched, spot_of, Last, Last.none, Last.entry}
-use Rattle.table_slot.specs.declared.Spot.{Spot}
-use Rattle.table_slot.specs.declared.Spot.TheVariants.{Free, Taken}
 use Rattle.table_slot.proofs.Search.{against-over, against-entry, against-deep}
 
 -- row i, where nothing stands there yet
-abbrev pub spot_at : Node → ℕ → Spot
-spot_at absent i = Free i
-spot_at (file c) i = Taken
-spot_at (folder k) i = Taken
+abbrev pub spot_at : Node → ℕ → Option ℕ
+spot_at absent i = Some i
+spot_at (file c) i = None
+spot_at (folder k) i = None
 
-taken : (x : Node) (i : ℕ) → Present x → spot_at x i ≡ Taken
+taken : (x : Node) (i : ℕ) → Present x → spot_at x i ≡ None
 taken absent i h = absurd h
 taken (file c) i h = refl
 taken (folder k) i h = refl
 
 module _ (n : Name) (d : ℕ) where
-  spot-ended : (i : ℕ) (rs : List Row) → Ended d rs → spot_in n d i rs ≡ Free i
+  spot-ended : (i : ℕ) (rs : List Row) → Ended d rs → spot_in n d i rs ≡ Some i
   unfolding spot_in
   spot-ended i [] h = refl
   spot-ended i (r ∷ rs) h = rw (against-over d n r h)
@@ -58,9 +57,9 @@ module _ (n : Name) (d : ℕ) where
       (spot-deep (suc e) (suc i) k (rows_of e s ++ rs) (omega arith) ∙ spot-deep e (suc i + size k) s rs h)
 
   -- one sibling, y called m, by the order of n and m
-  spot-step : (m : Name) (y : Node) (s : Forest) (i : ℕ) (t : Spot) (o : Ordering) → cmp n m ≡ o → Present y → Above m s
+  spot-step : (m : Name) (y : Node) (s : Forest) (i : ℕ) (t : Option ℕ) (o : Ordering) → cmp n m ≡ o → Present y → Above m s
       → t ≡ spot_at (find n s) (i + row_count y + size (before n s))
-      → by_order o (Free i) Taken t ≡ spot_at (if_same o y (find n s)) (i + size (by_order o end end (add m y (before n s))))
+      → by_order o (Some i) None t ≡ spot_at (if_same o y (find n s)) (i + size (by_order o end end (add m y (before n s))))
   unfolding size
   spot-step m y s i t Ordering.lt e h a q = let z : i + 0 ≡ i = omega arith in rw (find-above n s (above-trans n m e s a), z)
   spot-step m y s i t Ordering.eq e h a q = sym (taken y (i + 0) h)

@@ -9,47 +9,38 @@ ghost use Rattle.table_row.specs.Keyed.{keyed_row, keyed};
 ghost use Rattle.tree.specs.Key.{key};
 ghost use Rattle.table_slot.specs.Insert.{against as against_of, start_of, spot_in, spot_of, Sits, inserted};
 
+use std::cmp::Ordering;
 use tree::Profile;
 
-// The row that an entry goes to, or that its name is taken.
-#[derive(Clone, Copy)]
-pub enum Spot {
-    Free(usize),
-    Taken,
-}
-
 // How a name stands to row i, among the entries of a folder of depth d.
-fn against(profile: Profile, t: &[u32], i: usize, d: u32, name: [u32; 8]) -> table_row::Order
+fn against(profile: Profile, t: &[u32], i: usize, d: u32, name: [u32; 8]) -> Ordering
     requires { 20 * (i + 1) ≤ length t.now }
     ensures { result ≡ ordered (against_of d (key profile name) (keyed_row profile (row_at t.now i))) }
 {
     let e = t[20 * i];
     if e <= d {
-        return table_row::Order::Less;
+        return Ordering::Less;
     }
     if e - d == 1 {
-        let p = 20 * i + 2;
-        let q = p + 8;
-        return table_compare::compare_keys(profile, &name, &t[p..q]);
+        return table_compare::compare_keys(profile, &name, table_row::name(t, i));
     }
-    table_row::Order::Greater
+    Ordering::Greater
 }
 
-// Where a name goes among the rows from one on, in a folder of depth d.
-fn spot_from(profile: Profile, t: &[u32], d: u32, from: usize, name: [u32; 8]) -> Spot
+// The row that a name goes to among the rows from one on, in a folder of depth d; none where the name is taken.
+fn spot_from(profile: Profile, t: &[u32], d: u32, from: usize, name: [u32; 8]) -> Option<usize>
     requires { 20 * from ≤ length t.now }
     ensures { Sits t.now (spot_in (key profile name) d from (drop from (rows (keyed profile t.now)))) result }
 {
     let n = t.len() / 20;
-    let mut i = from;
-    while i < n {
+    for i in from..n {
         match against(profile, t, i, d, name) {
-            table_row::Order::Less => return Spot::Free(i),
-            table_row::Order::Same => return Spot::Taken,
-            table_row::Order::Greater => i += 1,
+            Ordering::Less => return Some(i),
+            Ordering::Equal => return None,
+            Ordering::Greater => {}
         }
     }
-    Spot::Free(i)
+    Some(n)
 }
 
 // Where the search in the folder at row f starts: past the entry that was put in last, if the name comes after it.
@@ -57,21 +48,21 @@ fn start(profile: Profile, t: &[u32], f: usize, last: usize, name: [u32; 8]) -> 
     requires { (20 * (f + 1) ≤ length t.now) × (20 * (last + 1) ≤ length t.now) }
     ensures { (result ≡ start_of (keyed profile t.now) f last (key profile name)) × (20 * result ≤ length t.now) }
 {
-    if f < last {
-        let p = 20 * last + 2;
-        let q = p + 8;
-        match table_compare::compare_keys(profile, &name, &t[p..q]) {
-            table_row::Order::Greater => return last + 1,
-            table_row::Order::Less => return f + 1,
-            table_row::Order::Same => return f + 1,
-        }
+    if f < last && table_compare::compare_keys(profile, &name, table_row::name(t, last)).is_gt() {
+        return last + 1;
     }
     f + 1
 }
 
-// Where a name goes among the entries of the folder at row f, of which the one at row last was put in last; last is f
-// where there is none.
-pub fn find_spot(profile: Profile, t: &[u32], f: usize, last: usize, name: [u32; 8]) -> Spot
+// The row that a name goes to among the entries of the folder at row f, of which the one at row last was put in last; last
+// is f where there is none. None where the name is taken.
+pub fn find_spot(
+    profile: Profile,
+    t: &[u32],
+    f: usize,
+    last: usize,
+    name: [u32; 8],
+) -> Option<usize>
     requires { (20 * (f + 1) ≤ length t.now) × (20 * (last + 1) ≤ length t.now) }
     ensures { Sits t.now (spot_of (keyed profile t.now) f last (key profile name)) result }
 {
@@ -84,9 +75,7 @@ fn shift(t: &mut [u32], a: usize, e: usize)
     requires { (a ≤ e) × (e + 20 ≤ length t.old) }
     ensures { t.new ≡ written t.old (a + 20) (take (e - a) (drop a t.old)) }
 {
-    let mut k = e;
-    while a < k {
-        k -= 1;
+    for k in (a..e).rev() {
         t[k + 20] = t[k];
     }
 }

@@ -11,23 +11,18 @@ ghost use Rattle.table_stands.specs.Around.{entry_end};
 ghost use Rattle.table_moved.specs.Path.{parent_of, path_of};
 ghost use Rattle.table_moved.specs.Pieces.{folder_at, Spans};
 
-use table_find::Found;
 use table_moved::Span;
 
 // The row of the path's parent, where that is a folder.
-pub fn parent_row(t: &[u32], names: [[u32; 8]; 16], depth: usize) -> Found
+pub fn parent_row(t: &[u32], names: [[u32; 8]; 16], depth: usize) -> Option<usize>
     requires { Passes Exact t.now × (1 ≤ depth) × (depth ≤ 16) }
     ensures { Finds t.now (folder_at (tree_of t.now) (parent_of names depth)) result }
 {
-    match table_follow::lookup(t, names, 0, depth - 1) {
-        Found::At(i) => {
-            if table_row::word(t, i, 1) == 0 {
-                return Found::At(i);
-            }
-            Found::Nothing
-        }
-        Found::Nothing => Found::Nothing,
+    let i = table_follow::lookup(t, names, 0, depth - 1)?;
+    if table_row::word(t, i, 1) == 0 {
+        return Some(i);
     }
+    None
 }
 
 // The row after the entry called name of the folder at row f; its place where there is no such entry.
@@ -36,8 +31,8 @@ pub fn entry_end(t: &[u32], f: usize, name: [u32; 8]) -> usize
     ensures { (result ≡ entry_end t.now f name) × (20 * result ≤ length t.now) }
 {
     match table_entry::find_child(t, f, name) {
-        Found::At(i) => table_find::subtree_end(t, i),
-        Found::Nothing => table_place::place(t, f, name),
+        Some(i) => table_find::subtree_end(t, i),
+        None => table_place::place(t, f, name),
     }
 }
 
@@ -47,13 +42,13 @@ pub fn span_at(t: &[u32], names: [[u32; 8]; 16], depth: usize) -> Span
     ensures { Spans t.now (follow (path_of names depth) t.now) result }
 {
     match table_follow::lookup(t, names, 0, depth) {
-        Found::At(i) => {
+        Some(i) => {
             let e = table_find::subtree_end(t, i);
             Span {
                 from: 20 * i,
                 to: 20 * e,
             }
         }
-        Found::Nothing => Span { from: 0, to: 0 },
+        None => Span { from: 0, to: 0 },
     }
 }

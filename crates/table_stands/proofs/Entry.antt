@@ -1,4 +1,5 @@
 -- An entry of a folder that stands at a row: where it stands, that it is found, and its place.
+use Rattle.std.proofs.Common.{None}
 use mathlib.Core.Path.{◌≡◌, refl, sym, ap, ◌∙◌}
 use mathlib.Core.List.{List, [], ◌∷◌, ◌++◌, append_assoc}
 use mathlib.Core.Bool.{Bool, true, false, cond}
@@ -16,7 +17,6 @@ use Rattle.tree.specs.Same.{same_words}
 use Rattle.table_row.specs.Table.{Row, rows}
 use Rattle.table_row.specs.Tree.{file_row, folder_row, rows_of, node_rows}
 use Rattle.table_row.proofs.Tree.{length-rows}
-use Rattle.table_find.specs.declared.Found.TheVariants.{Nothing}
 use Rattle.table_find.specs.Subtree.{end_of}
 use Rattle.table_find.specs.Entry.{Stop, Stop.entry, Stop.over, seek, among, found, row, child, up_to, place}
 use Rattle.tree.proofs.Forest.{find-above, above-trans}
@@ -103,7 +103,7 @@ end-at w i (file c) h = h tt
 end-at w i (folder k) h = h tt
 
 -- a file has no entries
-pub file-child : (w : List ℕ) (f d : ℕ) (m n : Name) (c : Content) → Stands w f d m (file c) → child w f n ≡ Nothing
+pub file-child : (w : List ℕ) (f d : ℕ) (m n : Name) (c : Content) → Stands w f d m (file c) → child w f n ≡ None
 unfolding child node_rows
 file-child w f d m n c s =
     let h = head w f (file_row d m c) s.rest s.here in

@@ -1,4 +1,5 @@
 -- A path leads, in the words of a node, to the row where the node at that path stands.
+use Rattle.std.proofs.Common.{Option, Some, None}
 use mathlib.Core.Path.{◌≡◌, refl, sym, ap, ◌∙◌}
 use mathlib.Core.List.{List, [], ◌∷◌}
 use native.Mathlib.Omega.{arith}
@@ -8,8 +9,6 @@ use Prim.Native.Nat.{ℕ, suc, ◌+◌, Ordering}
 use Rattle.tree.specs.Name.{Name, cmp, if_same}
 use Rattle.tree.specs.Forest.{TreePath, Forest, Forest.end, Forest.leaf, Forest.dir, Node, Node.absent, Node.file, Node.folder, SortedNode, at, find, size, Present}
 use Rattle.tree.specs.Rules.{NameRule}
-use Rattle.table_find.specs.declared.Found.{Found}
-use Rattle.table_find.specs.declared.Found.TheVariants.{At, Nothing}
 use Rattle.table_find.specs.Subtree.{subtree}
 use Rattle.table_follow.specs.Follow.{further, onward, follow}
 use Rattle.tree.proofs.Order.{cmp-eq}
@@ -46,10 +45,10 @@ ruled-at (n ∷ p) (folder k) r = ruled-at p (find n k) (either (find n k) (λ h
 
 further-found : (i j k : ℕ) (x : Node) → i + j ≡ k → further i (found_at x j) ≡ found_at x k
 further-found i j k absent e = refl
-further-found i j k (file c) e = ap At e
-further-found i j k (folder f) e = ap At e
+further-found i j k (file c) e = ap Some e
+further-found i j k (folder f) e = ap Some e
 
-onward-found : (y : Node) (i : ℕ) (g : ℕ → Found) (z : Found) → (Present y → g i ≡ z) → (y ≡ absent → Nothing ≡ z) → onward (found_at y i) g ≡ z
+onward-found : (y : Node) (i : ℕ) (g : ℕ → Option ℕ) (z : Option ℕ) → (Present y → g i ≡ z) → (y ≡ absent → None ≡ z) → onward (found_at y i) g ≡ z
 onward-found absent i g z h k = k refl
 onward-found (file c) i g z h k = h tt
 onward-found (folder f) i g z h k = h tt
@@ -102,5 +101,5 @@ module _ (p : TreePath) (w : List ℕ) (d : ℕ) (m : Name) (x : Node) (h : Hold
       let s : Stands w (row_in x p) (d + length p) (name_on m p) (at x p) = rw zero-add at (stands_at p w 0 d m x (stands-whole w d m x h) h.sorted y) in
       record { found = follow-at p w d m x h ∙ present-found (at x p) (row_in x p) y; stands = s; words = stands-words w (row_in x p) (d + length p) (name_on m p) (at x p) s y }
 
-  pub lost : at x p ≡ absent → follow p w ≡ Nothing
+  pub lost : at x p ≡ absent → follow p w ≡ None
   lost e = follow-at p w d m x h ∙ rw e

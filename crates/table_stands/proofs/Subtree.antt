@@ -1,4 +1,5 @@
 -- A node that stands at a row is the subtree there: where it ends, and its words.
+use Rattle.std.proofs.Common.{Some}
 use mathlib.Core.Path.{◌≡◌, refl, sym, ap, ◌∙◌}
 use mathlib.Core.List.{List, [], ◌∷◌, ◌++◌, append-nil}
 use native.Mathlib.Omega.{arith}
@@ -11,7 +12,6 @@ use Rattle.tree.specs.Rules.{WellFormed}
 use Rattle.tree.proofs.Size.{some-rows, row_count}
 use Rattle.table_row.specs.Table.{Row, rows, flat, depth}
 use Rattle.table_row.specs.Tree.{folder_row, file_row, rows_of, node_rows, root_name, table}
-use Rattle.table_find.specs.declared.Found.TheVariants.{At}
 use Rattle.table_find.specs.Subtree.{run, end_of, subtree}
 use Rattle.table_find.proofs.Walk.{subtree-none}
 use Rattle.table_row.proofs.Flat.{rows-flat}
@@ -19,7 +19,7 @@ use Rattle.table_stands.specs.Stands.{Stands, StandsOr, found_at, Holds}
 use Rattle.table_stands.proofs.Rows.{words-rows, length-rows-from, head}
 use Rattle.table_stands.proofs.Forest.{length-node_rows, run-ended, run-rows, wide-node_rows, ruled-within}
 
-pub present-found : (x : Node) (i : ℕ) → Present x → found_at x i ≡ At i
+pub present-found : (x : Node) (i : ℕ) → Present x → found_at x i ≡ Some i
 present-found absent i h = absurd h
 present-found (file c) i h = refl
 present-found (folder k) i h = refl

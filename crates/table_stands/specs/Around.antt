@@ -1,11 +1,9 @@
 -- What stands around an entry, and around the node at a path.
-use Rattle.std.specs.Prelude.{List, [], ◌∷◌, ◌++◌, ℕ, suc, ◌+◌}
+use Rattle.std.specs.Prelude.{List, [], ◌∷◌, ◌++◌, ℕ, suc, ◌+◌, Option, Some, None}
 use Rattle.tree.specs.Name.{Name, cmp, by_order}
 use Rattle.tree.specs.Forest.{Forest, Forest.end, Forest.leaf, Forest.dir, Node, TreePath, find, kids, size}
 use Rattle.table_row.specs.Table.{Row}
 use Rattle.table_row.specs.Tree.{rows_of, folder_row}
-use Rattle.table_find.specs.declared.Found.{Found}
-use Rattle.table_find.specs.declared.Found.TheVariants.{At, Nothing}
 use Rattle.table_find.specs.Subtree.{end_of}
 use Rattle.table_find.specs.Entry.{child, place}
 
@@ -22,9 +20,9 @@ behind n (leaf m c s) = by_order (cmp n m) (leaf m c s) s (behind n s)
 behind n (dir m k s) = by_order (cmp n m) (dir m k s) s (behind n s)
 
 -- the end of a subtree that was found, else row j
-abbrev pub ended_by : List ℕ → Found → ℕ → ℕ
-ended_by w (At i) j = end_of w i
-ended_by w Nothing j = j
+abbrev pub ended_by : List ℕ → Option ℕ → ℕ → ℕ
+ended_by w (Some i) j = end_of w i
+ended_by w None j = j
 
 -- the row after the entry called n of the folder at row f; its place where there is no such entry
 abbrev pub entry_end : List ℕ → ℕ → Name → ℕ

@@ -1,12 +1,10 @@
 -- A node stands at a row: its rows are there in one piece, and what follows is not deeper.
-use Rattle.std.specs.Prelude.{◌≡◌, List, [], ◌∷◌, ◌++◌, length, drop, ℕ, ◌/◌, ◌≤◌}
+use Rattle.std.specs.Prelude.{◌≡◌, List, [], ◌∷◌, ◌++◌, length, drop, ℕ, ◌/◌, ◌≤◌, Option, Some, None}
 use Rattle.tree.specs.Name.{Name}
 use Rattle.tree.specs.Forest.{Forest, Forest.end, Forest.leaf, Forest.dir, Node, Node.absent, Node.file, Node.folder, SortedNode, TreePath, Present}
 use Rattle.tree.specs.Rules.{NameRule, ContentRule}
 use Rattle.table_row.specs.Table.{Row, rows, flat, depth}
 use Rattle.table_row.specs.Tree.{node_rows}
-use Rattle.table_find.specs.declared.Found.{Found}
-use Rattle.table_find.specs.declared.Found.TheVariants.{At, Nothing}
 use Rattle.table_find.specs.Subtree.{subtree}
 use Rattle.table_follow.specs.Follow.{follow}
 
@@ -28,10 +26,10 @@ StandsOr w i d n (file c) = Stands w i d n (file c)
 StandsOr w i d n (folder k) = Stands w i d n (folder k)
 
 -- what a search that comes to row i finds, where x is to stand there
-abbrev pub found_at : Node → ℕ → Found
-found_at absent i = Nothing
-found_at (file c) i = At i
-found_at (folder k) i = At i
+abbrev pub found_at : Node → ℕ → Option ℕ
+found_at absent i = None
+found_at (file c) i = Some i
+found_at (folder k) i = Some i
 
 -- every name and every content is as a table's rules have it
 unfoldable pub Ruled : Forest → Type 0
@@ -54,6 +52,6 @@ pub record Holds (w : List ℕ) (d : ℕ) (n : Name) (x : Node) : Type 0 where
 
 -- the path p leads in w to row i, where x stands with its words
 pub record Leads (w : List ℕ) (p : TreePath) (i d : ℕ) (n : Name) (x : Node) : Type 0 where
-  pub found : follow p w ≡ At i
+  pub found : follow p w ≡ Some i
   pub stands : Stands w i d n x
   pub words : subtree w i ≡ flat (node_rows d n x)

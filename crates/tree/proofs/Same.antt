@@ -3,6 +3,10 @@ use mathlib.Core.Bool.{Bool, ◌&&◌, cond, false, true}
 use mathlib.Core.List.{List}
 use mathlib.Core.Path.{◌≡◌, ap, refl, sym}
 use lib.Dec.{compare_is_eq}
+use Rattle.std.specs.Bool.{Decides, one_answer}
+use Rattle.std.specs.Str.{bytes_eq}
+use Rattle.std.proofs.lemmas.Bool.Decides.{Decides-eqb}
+use Rattle.std.proofs.lemmas.Slice.Eq.{slice_eq-Decides}
 use Prim.Native.Nat.{Ordering, ℕ}
 use Rattle.tree.specs.Forest.{Forest, Forest.dir, Forest.end, Forest.leaf, Node, Node.absent, Node.file, Node.folder}
 use Rattle.tree.specs.Name.{cmp}
@@ -30,6 +34,13 @@ same_words-eq a b = go (cmp a b) refl
     go Ordering.lt h e = cc
     go Ordering.eq h e = cmp-eq a b h
     go Ordering.gt h e = cc
+
+pub same_words-decides : (a b : List ℕ) → Decides (same_words a b) (a ≡ b)
+same_words-decides a b = (same_words-eq a b, λ e. rw e (same_words-refl b))
+
+-- what `==` tells of two slices
+pub same_words-slices : (a b : List ℕ) (r : Bool) → r ≡ bytes_eq a b → r ≡ same_words a b
+same_words-slices a b r h = one_answer r (same_words a b) (slice_eq-Decides Decides-eqb a b r h) (same_words-decides a b)
 
 pub same_forest-refl : (f : Forest) → same_forest f f ≡ true
 unfolding same_forest

@@ -44,7 +44,7 @@ pub insert-requires : goal.insert-requires
 insert-requires c =
     let a = c.args in
     let f = row_fits a.s.count a.t.now (sym c.if-has_room.true ∙ c.has_room.ensures) in
-    let i = simp length-take at (rw c.in-Free.is at c.find_spot.ensures.inside) in
+    let i = simp length-take at (rw c.in-Some.is at c.find_spot.ensures.inside) in
     (omega arith, f.0)
 
 pub enter-state-requires : goal.enter-state-requires
@@ -56,17 +56,17 @@ pub returns-then-has_room : goal.returns-then-has_room
 returns-then-has_room c =
     record {
       does = λ f q v g h.
-          did-put c.args.profile c.args.t.now c.args.s c.args.name c.args.c f q v g h c.insert.new.t _ c.if-depth-eq17.false _ (sym c.in-Free.is ∙ c.find_spot.ensures.answer)
+          did-put c.args.profile c.args.t.now c.args.s c.args.name c.args.c f q v g h c.insert.new.t _ c.if-depth-eq17.false _ (sym c.in-Some.is ∙ c.find_spot.ensures.answer)
           c.requires.2 (search rules) (sym c.if-has_room.true ∙ c.has_room.ensures) refl c.enter-state.ensures
           (c.insert.ensures ∙ rw c.row_of.ensures);
     }
 
-pub returns-in-Taken : goal.returns-in-Taken
-returns-in-Taken c =
+pub returns-in-None : goal.returns-in-None
+returns-in-None c =
     let a = c.args in
     record {
       does = λ f q v g h.
-          did-taken a.profile a.t.now a.s a.name a.c f q v g h a.t.now _ c.if-depth-eq17.false (sym c.in-Taken.is ∙ c.find_spot.ensures.answer) (omega arith);
+          did-taken a.profile a.t.now a.s a.name a.c f q v g h a.t.now _ c.if-depth-eq17.false (sym c.in-None.is ∙ c.find_spot.ensures.answer) (omega arith);
     }
 
 pub returns-else-has_room : goal.returns-else-has_room
@@ -74,6 +74,6 @@ returns-else-has_room c =
     let a = c.args in
     record {
       does = λ f q v g h.
-          did-full a.profile a.t.now a.s a.name a.c f q v g h a.t.now _ c.if-depth-eq17.false _ (sym c.in-Free.is ∙ c.find_spot.ensures.answer)
+          did-full a.profile a.t.now a.s a.name a.c f q v g h a.t.now _ c.if-depth-eq17.false _ (sym c.in-Some.is ∙ c.find_spot.ensures.answer)
           (sym c.if-has_room.false ∙ c.has_room.ensures) (omega arith);
     }

@@ -7,6 +7,6 @@ pub returns-then-n-le4096 : goal.returns-then-n-le4096
 unfolding room_rule
 returns-then-n-le4096 c = rw (le-leb _ _ c.if-n-le4096.true)
 
-pub returns : goal.returns
+pub returns-else-n-le4096 : goal.returns-else-n-le4096
 unfolding room_rule
-returns c = rw (lt-leb _ _ c.if-n-le4096.false)
+returns-else-n-le4096 c = rw (lt-leb _ _ c.if-n-le4096.false)

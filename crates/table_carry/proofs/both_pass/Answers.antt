@@ -4,5 +4,5 @@ use Rattle.table_carry.proofs.both_pass.Goals as goal
 pub returns-then-passes : goal.returns-then-passes
 returns-then-passes c = rw (← c.passes.ensures, c.if-passes.true) c.passes-then-passes.ensures
 
-pub returns : goal.returns
-returns c = rw (← c.passes.ensures, c.if-passes.false)
+pub returns-else-passes : goal.returns-else-passes
+returns-else-passes c = rw (← c.passes.ensures, c.if-passes.false)

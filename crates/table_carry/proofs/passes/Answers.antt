@@ -1,9 +1,7 @@
--- `table_carry::passes` meets its contract: case by case.
+-- `table_carry::passes` meets its contract: the answer is the one that is due.
+use Rattle.std.proofs.Common.{◌∙◌}
 use Rattle.table_rules.proofs.Passing.{check-is}
 use Rattle.table_carry.proofs.passes.Goals as goal
 
-pub returns-in-Accepted : goal.returns-in-Accepted
-returns-in-Accepted c = rw (← check-is _ _ _ c.check_table.ensures, c.in-Accepted.is)
-
-pub returns-in-Refused : goal.returns-in-Refused
-returns-in-Refused c = rw (← check-is _ _ _ c.check_table.ensures, c.in-Refused.is)
+pub returns : goal.returns
+returns c = c.is_ok.ensures.value ∙ rw (check-is _ _ _ c.check_table.ensures)

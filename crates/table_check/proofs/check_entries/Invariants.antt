@@ -7,6 +7,3 @@ use Rattle.table_check.proofs.check_entries.Given as goal
 
 abbrev pub invariant-loop-i : goal.invariant-loop-i
 invariant-loop-i l = (0 < l.i) × (l.i ≤ l.n) × Lasts l.profile l.t l.i l.last × Passed (ok_row_in l.profile) l.t l.i × Told (no_twin l.profile) l.t l.twins l.i
-
-abbrev pub decreases-loop-i : goal.decreases-loop-i
-decreases-loop-i l = l.n - l.i

@@ -8,6 +8,3 @@ use Rattle.table_compare.proofs.compare_keys.Given as goal
 
 abbrev pub invariant-loop-k : goal.invariant-loop-k
 invariant-loop-k l = (l.k ≤ length l.a) × (cmp (key l.profile l.a) (key l.profile l.b) ≡ cmp (drop l.k (key l.profile l.a)) (drop l.k (key l.profile l.b)))
-
-abbrev pub decreases-loop-k : goal.decreases-loop-k
-decreases-loop-k l = length l.a - l.k

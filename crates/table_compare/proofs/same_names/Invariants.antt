@@ -14,6 +14,3 @@ name_of w i = name (row_at w i)
 abbrev pub invariant-loop-k : goal.invariant-loop-k
 invariant-loop-k l =
     (l.k ≤ 8) × ((l.same && same_words (drop l.k (name_of l.a l.i)) (drop l.k (name_of l.b l.j))) ≡ same_words (name_of l.a l.i) (name_of l.b l.j))
-
-abbrev pub decreases-loop-k : goal.decreases-loop-k
-decreases-loop-k l = 8 - l.k

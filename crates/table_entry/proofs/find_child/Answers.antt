@@ -1,68 +1,47 @@
--- `find_child` finds the entry: the outer loop searches on from row i, the inner has words 0 to k - 1 the same.
-use mathlib.Core.Path.{◌≡◌, sym, ap, ◌∙◌}
-use mathlib.Core.List.{List}
-use mathlib.Core.Bool.{true}
-use native.Mathlib.Omega.{arith}
-use lib.ListN.{length, drop, get_or}
-use Prim.Native.Nat.{ℕ, ◌+◌, ◌*◌, ◌-◌, ◌<◌}
+-- `find_child` finds the entry: the search goes on from row i.
+use Rattle.std.proofs.Common.{◌≡◌, ◌+◌, ◌*◌, ◌∙◌, sym, ap, drop, get_or, true, false, Bool, List, ℕ}
 use borrow.Author.Rules.{rules}
 use Rattle.tree.specs.Same.{same_words}
-use Rattle.tree.proofs.Same.{same_words-false}
-use Rattle.table_row.specs.Table.{rows}
-use Rattle.table_row.proofs.Table.{depth-at, name-length, name-word}
-use Rattle.table_row.proofs.Compare.{same_next, same_end}
+use Rattle.tree.proofs.Same.{same_words-slices}
+use Rattle.table_row.specs.Table.{rows, row_at, name}
+use Rattle.table_row.proofs.Table.{depth-at}
 use Rattle.table_find.specs.Entry.{seek, found, child}
 use Rattle.table_find.proofs.Walk.{seek-end, seek_stop, seek-deep, seek-other, seek-here}
-use Rattle.table_entry.proofs.find_child.Invariants.{name_of}
 use Rattle.table_entry.proofs.find_child.Goals as goal
-use Rattle.table_entry.proofs.find_child.Goals.{else-e-d-eq1, then-e-d-eq1+else-k-eq8+then-t-i}
+use Rattle.table_entry.proofs.find_child.Goals.{else-e-d-eq1-via-then-e-d-eq1+else-eq, else-e-d-eq1-via-else-e-d-eq1}
 
-pub returns-then-k-eq8 : goal.returns-then-k-eq8
+pub returns-then-eq : goal.returns-then-eq
 unfolding child
-returns-then-k-eq8 c =
+returns-then-eq c =
     let a = c.args in
-    let n8 : length a.name ≡ 8 = search rules in
-    let e8 : length (name_of a.t.now c.rows.i) ≡ 8 = name-length a.t.now c.rows.i (search rules) in
-    let s : same_words a.name (name_of a.t.now c.rows.i) ≡ true = c.words.invariant.1 ∙ same_end a.name (name_of a.t.now c.rows.i) c.words.k (omega arith) (omega arith) in
+    let w = a.t.now in
+    let s : same_words a.name (name (row_at w c.loop-i.i)) ≡ true =
+    sym (same_words-slices _ _ _ (rw (c.as_slice.ensures, c.name.ensures.0) at c.eq.ensures)) ∙ c.if-eq.true in
     record {
-      answer = sym (rw depth-at (ap found (c.rows.invariant.1 ∙ seek-here (same_words a.name) a.t.now (get_or a.t.now (20 * a.f) 0) c.rows.i (search rules) (search rules) s)));
+      answer = sym (rw depth-at (ap found (c.loop-i.invariant ∙ seek-here (same_words a.name) w (get_or w (20 * a.f) 0) c.loop-i.i (search rules) (search rules) s)));
       inside = search rules;
     }
 
-pub words-preserved : goal.words-preserved
-words-preserved c =
-    let a = c.args in
-    let k = c.words.k in
-    let w = a.t.now in
-    let n8 : length a.name ≡ 8 = search rules in
-    let k8 : k < 8 = search rules in
-    let e8 : length (name_of w c.rows.i) ≡ 8 = name-length w c.rows.i (search rules) in
-    (search rules, c.words.invariant.1 ∙ same_next a.name (name_of w c.rows.i) k (omega arith) (omega arith) (sym (name-word w c.rows.i k k8 ∙ c.if-t-i.false)))
-
-pub rows-preserved : goal.rows-preserved
-rows-preserved c =
+pub loop-i-preserved : goal.loop-i-preserved
+loop-i-preserved c =
     let a = c.args in
     let w = a.t.now in
-    let i = c.rows.i in
+    let i = c.loop-i.i in
     let p = same_words a.name in
     let d = get_or w (20 * a.f) 0 in
     let next : seek p d i (drop i (rows w)) ≡ seek p d (i + 1) (drop (i + 1) (rows w)) =
-    elim c.if-e-d-eq1.branch [
-      | then-e-d-eq1+else-k-eq8+then-t-i x ↦
-          let k = x.words.k in
-          let k8 : k < 8 = omega (arith, x.words.invariant.0, x.if-k-eq8.false) in
-          seek-other p w d i (search rules) x.if-e-d-eq1.true
-          (same_words-false a.name (name_of w i) (λ e. x.if-t-i.true (sym (name-word w i k k8) ∙ sym (ap (λ (v : List ℕ). get_or v k 0) e))))
-      | else-e-d-eq1 x ↦ seek-deep p w d i (search rules) (search rules) x.if-e-d-eq1.false
+    elim c.else-e-d-eq1.branch [
+      | else-e-d-eq1-via-then-e-d-eq1+else-eq x ↦ seek-other p w d i (search rules) x.if-e-d-eq1.true (sym (same_words-slices _ _ _ (rw (x.as_slice.ensures, x.name.ensures.0) at x.eq.ensures)) ∙ x.if-eq.false)
+      | else-e-d-eq1-via-else-e-d-eq1 x ↦ seek-deep p w d i (search rules) (search rules) x.if-e-d-eq1.false
     ] in
-    (search rules, c.rows.invariant.1 ∙ next)
+    c.loop-i.invariant ∙ next
 
-pub returns-after-rows : goal.returns-after-rows
+pub returns : goal.returns
 unfolding child
-returns-after-rows c =
+returns c =
     let a = c.args in
     record {
-      answer = sym (rw depth-at (ap found (c.rows.invariant.1 ∙ seek-end (same_words a.name) a.t.now (get_or a.t.now (20 * a.f) 0) c.rows.i (search rules))));
+      answer = sym (rw depth-at (ap found (c.loop-i.invariant ∙ seek-end (same_words a.name) a.t.now (get_or a.t.now (20 * a.f) 0) c.loop-i.i (search rules))));
       inside = tt;
     }
 
@@ -71,6 +50,6 @@ unfolding child
 returns-then-e-d c =
     let a = c.args in
     record {
-      answer = sym (rw depth-at (ap found (c.rows.invariant.1 ∙ seek_stop (same_words a.name) a.t.now (get_or a.t.now (20 * a.f) 0) c.rows.i (search rules) c.if-e-d.true)));
+      answer = sym (rw depth-at (ap found (c.loop-i.invariant ∙ seek_stop (same_words a.name) a.t.now (get_or a.t.now (20 * a.f) 0) c.loop-i.i (search rules) c.if-e-d.true)));
       inside = tt;
     }

@@ -21,13 +21,13 @@ loop-k-init c =
 pub loop-k-preserved : goal.loop-k-preserved
 loop-k-preserved c =
     let s = c.args in
-    let e = sym c.same_rows.ensures ∙ c.if-same_rows.true in
+    let e = sym c.same_rows.ensures ∙ c.if-not-same_rows.false in
     (search rules, block-next s.w.now s.i s.v.now s.j c.loop-k.k c.loop-k.invariant.1 e)
 
-pub returns-else-same_rows : goal.returns-else-same_rows
-returns-else-same_rows c =
+pub returns-then-not-same_rows : goal.returns-then-not-same_rows
+returns-then-not-same_rows c =
     let s = c.args in
-    let e = sym c.same_rows.ensures ∙ c.if-same_rows.false in
+    let e = sym c.same_rows.ensures ∙ c.if-not-same_rows.true in
     subtrees-differ s.w.now s.i s.v.now s.j c.loop-k.k (search rules) (search rules) e
 
 pub returns : goal.returns

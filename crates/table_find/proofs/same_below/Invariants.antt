@@ -6,6 +6,3 @@ use Rattle.table_find.proofs.same_below.Given as goal
 
 abbrev pub invariant-loop-k : goal.invariant-loop-k
 invariant-loop-k l = (l.k ≤ l.n) × (block l.w l.i l.k ≡ block l.v l.j l.k)
-
-abbrev pub decreases-loop-k : goal.decreases-loop-k
-decreases-loop-k l = l.n - l.k

@@ -8,6 +8,3 @@ use Rattle.table_find.proofs.subtree_end.Given as goal
 
 abbrev pub invariant-loop-e : goal.invariant-loop-e
 invariant-loop-e l = (l.n ≡ length l.t / 20) × (l.e ≤ l.n) × (l.e + run l.d (drop l.e (rows l.t)) ≡ l.i + 1 + run l.d (drop (l.i + 1) (rows l.t)))
-
-abbrev pub decreases-loop-e : goal.decreases-loop-e
-decreases-loop-e l = l.n - l.e

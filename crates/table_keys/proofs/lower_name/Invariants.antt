@@ -12,6 +12,3 @@ lowered t at = map lower_word (take 8 (drop at t))
 
 abbrev pub invariant-loop-i : goal.invariant-loop-i
 invariant-loop-i l = (l.i ≤ 8) × (length l.t ≡ length l.initial.t) × (l.t ≡ paste l.initial.t l.at (lowered l.initial.t l.at) l.i)
-
-abbrev pub decreases-loop-i : goal.decreases-loop-i
-decreases-loop-i l = 8 - l.i

@@ -1,4 +1,4 @@
--- `table_names::all_zero` meets its contract: all words are zero where the flag says so of those before word k, and the rest are.
+-- `table_names::all_zero` meets its contract: all words are zero where the flag says so of those before the word, and the rest are.
 use mathlib.Core.Path.{◌≡◌}
 use mathlib.Core.Bool.{◌&&◌}
 use lib.ListN.{length, drop}
@@ -6,8 +6,5 @@ use Prim.Native.Nat.{◌-◌}
 use Rattle.tree.specs.Rules.{zeros}
 use Rattle.table_names.proofs.all_zero.Given as goal
 
-abbrev pub invariant-loop-k : goal.invariant-loop-k
-invariant-loop-k l = (l.zero && zeros (drop l.k l.s)) ≡ zeros l.s
-
-abbrev pub decreases-loop-k : goal.decreases-loop-k
-decreases-loop-k l = length l.s - l.k
+abbrev pub invariant-loop-word : goal.invariant-loop-word
+invariant-loop-word l = (l.zero && zeros (drop l.word-index l.s)) ≡ zeros l.s

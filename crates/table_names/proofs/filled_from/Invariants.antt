@@ -7,6 +7,3 @@ use Rattle.table_names.proofs.filled_from.Given as goal
 
 abbrev pub invariant-loop-k : goal.invariant-loop-k
 invariant-loop-k l = (l.k ≤ 32) × (length (bytes l.s) ≡ 32) × (zero_filled (drop l.from (bytes l.s)) ≡ zero_filled (drop l.k (bytes l.s)))
-
-abbrev pub decreases-loop-k : goal.decreases-loop-k
-decreases-loop-k l = 32 - l.k

@@ -16,12 +16,12 @@ pub returns-then-plain_word-2 : goal.returns-then-plain_word-2
 returns-then-plain_word-2 c =
     let w = c.args.s.now in
     let k = c.loop-k.k in
-    let p = rw c.filled.ensures at (sym c.plain_word-else-plain_word.ensures ∙ c.if-plain_word-2.true) in
+    let p = rw c.filled.ensures at (sym c.plain_word-in-loop-k.ensures ∙ c.if-plain_word-2.true) in
     let n = sym c.plain_word.ensures ∙ c.if-plain_word.false in
     c.all_zero.ensures ∙ rw (rest-is w (k + 1)) (sym (c.loop-k.invariant.1 ∙ word-filled w k (search rules) p n))
 
-pub returns-else-plain_word : goal.returns-else-plain_word
-returns-else-plain_word c =
+pub returns-in-loop-k : goal.returns-in-loop-k
+returns-in-loop-k c =
     c.filled_from.ensures ∙ rw drop-bytes (sym c.loop-k.invariant.1)
 
 pub returns : goal.returns

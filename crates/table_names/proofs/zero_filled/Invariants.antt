@@ -7,6 +7,3 @@ use Rattle.table_names.proofs.zero_filled.Given as goal
 
 abbrev pub invariant-loop-k : goal.invariant-loop-k
 invariant-loop-k l = (l.k ≤ 8) × (zero_filled (bytes l.s) ≡ zero_filled (bytes (drop l.k l.s)))
-
-abbrev pub decreases-loop-k : goal.decreases-loop-k
-decreases-loop-k l = 8 - l.k

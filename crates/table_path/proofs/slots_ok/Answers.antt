@@ -12,12 +12,12 @@ loop-i-init c = (search rules, omega (arith, c.well_formed.0), rw sub-zero)
 pub loop-i-preserved : goal.loop-i-preserved
 loop-i-preserved c =
     let a = c.args in
-    (search rules, search rules, c.loop-i.invariant.2 ∙ slots_next a.names a.depth c.loop-i.i (search rules) (sym c.slot_ok.ensures ∙ c.if-slot_ok.true))
+    (search rules, search rules, c.loop-i.invariant.2 ∙ slots_next a.names a.depth c.loop-i.i (search rules) (sym c.slot_ok.ensures ∙ c.if-not-slot_ok.false))
 
-pub returns-else-slot_ok : goal.returns-else-slot_ok
-returns-else-slot_ok c =
+pub returns-then-not-slot_ok : goal.returns-then-not-slot_ok
+returns-then-not-slot_ok c =
     let a = c.args in
-    sym (c.loop-i.invariant.2 ∙ slots-bad a.names a.depth c.loop-i.i (search rules) (sym c.slot_ok.ensures ∙ c.if-slot_ok.false))
+    sym (c.loop-i.invariant.2 ∙ slots-bad a.names a.depth c.loop-i.i (search rules) (sym c.slot_ok.ensures ∙ c.if-not-slot_ok.true))
 
 pub returns : goal.returns
 returns c =

@@ -7,6 +7,3 @@ use Rattle.table_path.proofs.slots_ok.Given as goal
 
 abbrev pub invariant-loop-i : goal.invariant-loop-i
 invariant-loop-i l = (l.i ≤ 16) × (length l.names ≡ 16) × (slots l.depth l.names ≡ slots (l.depth - l.i) (drop l.i l.names))
-
-abbrev pub decreases-loop-i : goal.decreases-loop-i
-decreases-loop-i l = 16 - l.i

@@ -28,19 +28,19 @@ slice_bounds-put_in-end c =
 pub put_in-requires : goal.put_in-requires
 put_in-requires c =
     let a = c.args in
-    inputs-ready a.profile a.target.now a.keys.now a.source.now a.span a.names a.depth c.requires (slice-words _ c.shared_slice_known-1.given) (slice-words _ c.shared_slice_known-3-1.given) (omega (arith, c.well_formed)) c.in-At.f
-    (sym c.parent_row.ensures.answer ∙ c.in-At.is) (inside-at _ _ _ c.in-At.is c.parent_row.ensures.inside)
+    inputs-ready a.profile a.target.now a.keys.now a.source.now a.span a.names a.depth c.requires (slice-words _ c.shared_slice_known-1.given) (slice-words _ c.shared_slice_known-3-1.given) (omega (arith, c.well_formed)) c.in-Some.f
+    (sym c.parent_row.ensures.answer ∙ c.in-Some.is) (inside-at _ _ _ c.in-Some.is c.parent_row.ensures.inside)
 
-pub returns-in-At : goal.returns-in-At
-returns-in-At c =
+pub returns-in-Some : goal.returns-in-Some
+returns-in-Some c =
     let a = c.args in
-    let e = sym c.parent_row.ensures.answer ∙ c.in-At.is in
-    let m = inputs-moved a.profile a.target.now a.keys.now a.source.now a.span a.names a.depth c.requires (slice-words _ c.shared_slice_known-1.given) (slice-words _ c.shared_slice_known-3-1.given) (omega (arith, c.well_formed)) c.in-At.f
-    e (inside-at _ _ _ c.in-At.is c.parent_row.ensures.inside) in
+    let e = sym c.parent_row.ensures.answer ∙ c.in-Some.is in
+    let m = inputs-moved a.profile a.target.now a.keys.now a.source.now a.span a.names a.depth c.requires (slice-words _ c.shared_slice_known-1.given) (slice-words _ c.shared_slice_known-3-1.given) (omega (arith, c.well_formed)) c.in-Some.f
+    e (inside-at _ _ _ c.in-Some.is c.parent_row.ensures.inside) in
     carried-out a.profile a.target.now a.source.now a.names a.depth a.res.now _ _ _ (parent-there a.profile a.target.now a.keys.now a.source.now a.span a.names a.depth c.requires _ e) m c.put_in.ensures
 
-pub returns-in-Nothing : goal.returns-in-Nothing
-returns-in-Nothing c =
+pub returns-in-None : goal.returns-in-None
+returns-in-None c =
     let a = c.args in
     no-parent a.profile a.target.now a.source.now a.names a.depth a.res.now
-    (parent-gone a.profile a.target.now a.keys.now a.source.now a.span a.names a.depth c.requires (sym c.parent_row.ensures.answer ∙ c.in-Nothing.is))
+    (parent-gone a.profile a.target.now a.keys.now a.source.now a.span a.names a.depth c.requires (sym c.parent_row.ensures.answer ∙ c.in-None.is))

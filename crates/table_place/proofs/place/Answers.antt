@@ -1,8 +1,8 @@
 -- `place` finds the place: the loop searches on from row i.
 use mathlib.Core.Path.{◌≡◌, sym, ap, ◌∙◌}
 use mathlib.Core.Logic.{⊎_elim}
-use lib.ListN.{drop, get_or}
-use Prim.Native.Nat.{◌+◌, ◌*◌, ◌-◌}
+use lib.ListN.{length, drop, get_or}
+use Prim.Native.Nat.{◌+◌, ◌*◌, ◌-◌, ◌/◌}
 use borrow.Author.Rules.{rules}
 use Rattle.table_row.specs.Table.{rows}
 use Rattle.table_row.proofs.Table.{depth-at}
@@ -41,4 +41,5 @@ pub returns : goal.returns
 unfolding place
 returns c =
     let a = c.args in
-    (sym (rw depth-at (ap row (c.loop-i.invariant.1 ∙ seek-end (up_to a.name) a.t.now (get_or a.t.now (20 * a.f) 0) c.loop-i.i (search rules)))), search rules)
+    let e : c.loop-i.i ≡ length a.t.now / 20 = search rules in
+    (sym e ∙ sym (rw depth-at (ap row (c.loop-i.invariant.1 ∙ seek-end (up_to a.name) a.t.now (get_or a.t.now (20 * a.f) 0) c.loop-i.i (search rules)))), search rules)

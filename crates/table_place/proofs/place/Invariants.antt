@@ -8,6 +8,3 @@ use Rattle.table_place.proofs.place.Given as goal
 
 abbrev pub invariant-loop-i : goal.invariant-loop-i
 invariant-loop-i l = (l.i ≤ l.n) × (seek (up_to l.name) l.d (l.f + 1) (drop (l.f + 1) (rows l.t)) ≡ seek (up_to l.name) l.d l.i (drop l.i (rows l.t)))
-
-abbrev pub decreases-loop-i : goal.decreases-loop-i
-decreases-loop-i l = l.n - l.i

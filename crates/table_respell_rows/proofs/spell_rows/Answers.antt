@@ -1,5 +1,6 @@
 -- `table_respell_rows::spell_rows` meets its contract. The loop's invariant: what is written, and then the rows from row i on by the
 -- counterparts that are noted, are all the rows.
+use Rattle.std.proofs.Common.{Some, None}
 use mathlib.Core.Path.{◌≡◌, refl, ap, ◌∙◌}
 use native.Mathlib.Omega.{arith}
 use native.Mathlib.Nat.{add-zero}
@@ -12,16 +13,15 @@ use Rattle.table_row.specs.Buffer.{written}
 use Rattle.table_row.specs.Table.{Row, row_at, name}
 use Rattle.table_row.proofs.Buffer.{written-nil}
 use Rattle.table_row.proofs.Table.{row-part}
-use Rattle.table_find.specs.declared.Found.TheVariants.{At, Nothing}
 use Rattle.table_respell.specs.Respell.{counterpart, spelled, respelled}
-use Rattle.table_respell.proofs.Step.{inside-all, inside-longer, get_d_any, deep, rest-next, rest-none, inside-set}
+use Rattle.table_respell.proofs.Step.{inside-all, inside-longer, deep, rest-next, rest-none, inside-set}
 use Rattle.table_respell_rows.proofs.spell_rows.Goals as goal
 
 pub loop-i-init : goal.loop-i-init
 unfolding respelled
 loop-i-init c =
     let a = c.args in
-    (search rules, refl, refl, λ k. inside-all a.keys.now (At a.f) c.requires.inside 17 k, c.requires.shallow, rw add-zero)
+    (search rules, refl, refl, λ k. inside-all a.keys.now (Some a.f) c.requires.inside 17 k, c.requires.shallow, rw add-zero)
 
 pub overflow_sub-folder : goal.overflow_sub-folder
 overflow_sub-folder c =
@@ -34,9 +34,7 @@ bounds-opened-d c =
     omega arith
 
 pub counterpart-found-requires : goal.counterpart-found-requires
-counterpart-found-requires c =
-    let D = deep c.args.words.now c.loop-i.i c.wide-d.result (search rules) c.loop-i.invariant.4 c.wide-d.ensures.0 in
-    rw (get_d_any c.loop-i.opened (c.wide-d.result - 1) (At 0) Nothing (omega (arith, c.loop-i.invariant.2))) (c.loop-i.invariant.3 (c.wide-d.result - 1))
+counterpart-found-requires c = c.loop-i.invariant.3 (c.wide-d.result - 1)
 
 pub bounds-opened-d-in-loop-i : goal.bounds-opened-d-in-loop-i
 bounds-opened-d-in-loop-i c =
@@ -52,9 +50,8 @@ loop-i-preserved c =
     let a = c.args in
     let D = deep a.words.now c.loop-i.i c.wide-d.result (search rules) c.loop-i.invariant.4 c.wide-d.ensures.0 in
     let K : c.key_name-key.result ≡ key Folded (name (row_at a.words.now c.loop-i.i)) = c.key_name-key.ensures ∙ ap (key Folded) c.name_of.ensures in
-    let C : counterpart a.keys.now (get_or c.loop-i.opened (c.wide-d.result - 1) (At 0)) c.key_name-key.result
-    ≡ counterpart a.keys.now (get_or c.loop-i.opened (c.wide-d.result - 1) Nothing) (key Folded (name (row_at a.words.now c.loop-i.i))) =
-    rw (K, get_d_any c.loop-i.opened (c.wide-d.result - 1) (At 0) Nothing (omega (arith, c.loop-i.invariant.2))) in (
+    let C : counterpart a.keys.now (get_or c.loop-i.opened (c.wide-d.result - 1) None) c.key_name-key.result
+    ≡ counterpart a.keys.now (get_or c.loop-i.opened (c.wide-d.result - 1) None) (key Folded (name (row_at a.words.now c.loop-i.i))) = rw K in (
       search rules,
       search rules,
       length-set c.loop-i.opened c.wide-d.result c.counterpart-found.result ∙ c.loop-i.invariant.2,

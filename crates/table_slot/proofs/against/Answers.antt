@@ -8,7 +8,7 @@ use Rattle.table_row.specs.Table.{row_at, depth, name}
 use Rattle.table_row.specs.Order.{ordered}
 use Rattle.table_row.specs.Keyed.{keyed_row}
 use Rattle.table_row.proofs.Table.{depth-at, name-part}
-use Rattle.table_slot.proofs.Search.{row-has-key, name_part, against-over, against-entry, against-deep}
+use Rattle.table_slot.proofs.Search.{row-has-key, against-over, against-entry, against-deep}
 use Rattle.table_slot.proofs.against.Goals as goal
 
 pub returns-then-e-d : goal.returns-then-e-d
@@ -23,8 +23,7 @@ returns-then-e-d-eq1 c =
     let r = keyed_row a.profile (row_at a.t.now a.i) in
     let k = row-has-key a.profile a.t.now a.i c.requires in
     let e : depth r ≡ suc a.d = rw (k.depth_is, depth-at) (let z = c.if-e-d-eq1.true in omega arith) in
-    let n : key a.profile (name_part a.t.now a.i) ≡ name r = rw (name-part a.t.now a.i) (sym k.name-is) in
-    rw (against-entry a.d (key a.profile a.name) r e, ← n) (search rules)
+    rw (against-entry a.d (key a.profile a.name) r e, k.name-is, ← c.name.ensures.0) c.compare_keys.ensures
 
 pub returns : goal.returns
 returns c =

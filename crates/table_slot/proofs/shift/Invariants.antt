@@ -7,6 +7,3 @@ use Rattle.table_slot.proofs.shift.Given as goal
 
 abbrev pub invariant-loop-k : goal.invariant-loop-k
 invariant-loop-k l = (l.a ≤ l.k) × (l.k ≤ l.e) × (length l.t ≡ length l.initial.t) × (l.t ≡ written l.initial.t (l.k + 20) (take (l.e - l.k) (drop l.k l.initial.t)))
-
-abbrev pub decreases-loop-k : goal.decreases-loop-k
-decreases-loop-k l = l.k

@@ -1,5 +1,7 @@
 -- `spot_from` meets its contract: the search goes on from row i.
-use mathlib.Core.Path.{refl, sym, ◌∙◌}
+use mathlib.Core.Path.{◌≡◌, refl, sym, ◌∙◌}
+use lib.ListN.{length}
+use Prim.Native.Nat.{◌/◌}
 use borrow.Author.Rules.{rules}
 use Rattle.tree.specs.Key.{key}
 use Rattle.table_slot.proofs.Search.{spot-end, spot-at}
@@ -16,11 +18,11 @@ returns-in-Less c =
       inside = search rules;
     }
 
-pub returns-in-Same : goal.returns-in-Same
-returns-in-Same c =
+pub returns-in-Equal : goal.returns-in-Equal
+returns-in-Equal c =
     let a = c.args in
     record {
-      answer = sym (c.loop-i.invariant.1 ∙ rw c.in-Same.is at (spot-at a.profile a.t.now a.d (key a.profile a.name) c.loop-i.i _ c.against.ensures (search rules)));
+      answer = sym (c.loop-i.invariant.1 ∙ rw c.in-Equal.is at (spot-at a.profile a.t.now a.d (key a.profile a.name) c.loop-i.i _ c.against.ensures (search rules)));
       inside = tt;
     }
 
@@ -32,4 +34,5 @@ loop-i-preserved c =
 pub returns : goal.returns
 returns c =
     let a = c.args in
-    record { answer = sym (c.loop-i.invariant.1 ∙ spot-end a.profile a.t.now a.d (key a.profile a.name) c.loop-i.i (search rules)); inside = search rules }
+    let e : c.loop-i.i ≡ length a.t.now / 20 = search rules in
+    rw (← e) record { answer = sym (c.loop-i.invariant.1 ∙ spot-end a.profile a.t.now a.d (key a.profile a.name) c.loop-i.i (search rules)); inside = search rules }

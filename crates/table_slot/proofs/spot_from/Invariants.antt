@@ -10,6 +10,3 @@ use Rattle.table_slot.proofs.spot_from.Given as goal
 
 abbrev pub invariant-loop-i : goal.invariant-loop-i
 invariant-loop-i l = (l.i ≤ l.n) × (spot_in (key l.profile l.name) l.d l.from (drop l.from (rows (keyed l.profile l.t))) ≡ spot_in (key l.profile l.name) l.d l.i (drop l.i (rows (keyed l.profile l.t))))
-
-abbrev pub decreases-loop-i : goal.decreases-loop-i
-decreases-loop-i l = l.n - l.i

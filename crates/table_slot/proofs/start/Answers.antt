@@ -1,24 +1,28 @@
 -- `start` meets its contract: the entry put in last is passed where the name comes after it.
-use mathlib.Core.Path.{sym}
+use Rattle.std.proofs.Common.{◌≡◌, sym, ◌∙◌, Bool}
 use borrow.Author.Tests.{le-ltb}
 use borrow.Author.Rules.{rules}
+use Rattle.std.specs.Ordering.{is_gt}
+use Rattle.tree.specs.Name.{cmp}
+use Rattle.tree.specs.Key.{key}
+use Rattle.table_row.specs.Order.{ordered}
+use Rattle.table_row.specs.Table.{row_at, name}
 use Rattle.table_slot.proofs.Search.{start-past}
 use Rattle.table_slot.proofs.start.Goals as goal
+use Rattle.table_slot.proofs.start.Goals.{else-f-last-via-then-f-last+else-is_gt, else-f-last-via-else-f-last}
 
-pub returns-in-Greater : goal.returns-in-Greater
-returns-in-Greater c =
+pub returns-then-is_gt : goal.returns-then-is_gt
+returns-then-is_gt c =
     let a = c.args in
-    (sym (rw c.in-Greater.is at (start-past a.profile a.t.now a.f a.last a.name _ c.compare_keys.ensures c.if-f-last.true c.requires.1)), search rules)
-
-pub returns-in-Less : goal.returns-in-Less
-returns-in-Less c =
-    let a = c.args in
-    (sym (rw c.in-Less.is at (start-past a.profile a.t.now a.f a.last a.name _ c.compare_keys.ensures c.if-f-last.true c.requires.1)), search rules)
-
-pub returns-in-Same : goal.returns-in-Same
-returns-in-Same c =
-    let a = c.args in
-    (sym (rw c.in-Same.is at (start-past a.profile a.t.now a.f a.last a.name _ c.compare_keys.ensures c.if-f-last.true c.requires.1)), search rules)
+    let e = rw (c.compare_keys.ensures, c.name.ensures.0) at c.is_gt.ensures in
+    (sym (start-past a.profile a.t.now a.f a.last a.name _ e c.if-f-last.true c.requires.1 ∙ rw c.if-is_gt.true), search rules)
 
 pub returns : goal.returns
-returns c = (rw (le-ltb _ _ c.if-f-last.false), search rules)
+returns c =
+    let a = c.args in
+    elim c.else-f-last.branch [
+      | else-f-last-via-then-f-last+else-is_gt w ↦
+          let e = rw (w.compare_keys.ensures, w.name.ensures.0) at w.is_gt.ensures in
+          (sym (start-past a.profile a.t.now a.f a.last a.name _ e w.if-f-last.true c.requires.1 ∙ rw w.if-is_gt.false), search rules)
+      | else-f-last-via-else-f-last w ↦ (rw (le-ltb _ _ w.if-f-last.false), search rules)
+    ]

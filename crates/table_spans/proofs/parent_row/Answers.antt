@@ -13,17 +13,17 @@ lookup-requires c = (passed-some Exact c.args.t.now c.requires.0, search rules)
 
 pub word-requires : goal.word-requires
 word-requires c =
-    let h = inside-at _ _ _ c.in-At.is c.lookup.ensures.inside in
+    let h = inside-at _ _ _ c.in-Some.is c.lookup.ensures.inside in
     (omega arith, search rules)
 
 pub returns-then-word-eq0 : goal.returns-then-word-eq0
 returns-then-word-eq0 c =
-    folder-found c.args.t.now c.requires.0 (slice-words _ c.shared_slice_known-1.given) _ _ c.lookup.ensures _ c.in-At.is (sym c.word.ensures ∙ c.if-word-eq0.true)
+    folder-found c.args.t.now c.requires.0 (slice-words _ c.shared_slice_known-1.given) _ _ c.lookup.ensures _ c.in-Some.is (sym c.word.ensures ∙ c.if-word-eq0.true)
 
 pub returns-else-word-eq0 : goal.returns-else-word-eq0
 returns-else-word-eq0 c =
-    file-found c.args.t.now c.requires.0 (slice-words _ c.shared_slice_known-1.given) _ _ c.lookup.ensures _ c.in-At.is (λ z. c.if-word-eq0.false (c.word.ensures ∙ z))
+    file-found c.args.t.now c.requires.0 (slice-words _ c.shared_slice_known-1.given) _ _ c.lookup.ensures _ c.in-Some.is (λ z. c.if-word-eq0.false (c.word.ensures ∙ z))
 
-pub returns-in-Nothing : goal.returns-in-Nothing
-returns-in-Nothing c =
-    none_found c.args.t.now c.requires.0 (slice-words _ c.shared_slice_known-1.given) _ _ c.lookup.ensures c.in-Nothing.is
+pub returns-in-None : goal.returns-in-None
+returns-in-None c =
+    none_found c.args.t.now c.requires.0 (slice-words _ c.shared_slice_known-1.given) _ _ c.lookup.ensures c.in-None.is
