@@ -2,10 +2,11 @@
 #![tactic(auto)]
 
 ghost use Rattle.std.specs.Prelude.{◌≡◌, true, ◌+◌, ◌*◌, ◌%◌, ◌≤◌, length};
-ghost use Rattle.plan_cursor.specs.Cursor.{is_row, from, order_at, not_after, keep, turned, least, behind, is_folder, decision};
+ghost use Rattle.plan_cursor.specs.Cursor.{is_row, from, order_at, keep, least, behind, is_folder, decision};
 
 pub mod tables;
 
+use std::cmp::Ordering;
 pub use tables::Tables;
 
 // A row of archive, left and right each; 4,294,967,295 where there is none.
@@ -54,7 +55,7 @@ pub fn scan(t: &[u32], i: usize, d: u32) -> u32
 }
 
 // The order of the names of two rows; a row that is not there comes after every other.
-pub fn order_at(w: &[u32], a: u32, v: &[u32], b: u32) -> table_row::Order
+pub fn order_at(w: &[u32], a: u32, v: &[u32], b: u32) -> Ordering
     ensures { result ≡ order_at w.now a v.now b }
 {
     let i = table_row::wide(a);
@@ -63,46 +64,19 @@ pub fn order_at(w: &[u32], a: u32, v: &[u32], b: u32) -> table_row::Order
         if j < v.len() / 20 {
             return table_compare::compare_names(w, i, v, j);
         }
-        return table_row::Order::Less;
+        return Ordering::Less;
     }
     if j < v.len() / 20 {
-        return table_row::Order::Greater;
+        return Ordering::Greater;
     }
-    table_row::Order::Same
-}
-
-// Whether the first of two names is not after the second.
-fn not_after(x: table_row::Order) -> bool
-    ensures { result ≡ not_after x }
-{
-    match x {
-        table_row::Order::Less => true,
-        table_row::Order::Same => true,
-        table_row::Order::Greater => false,
-    }
+    Ordering::Equal
 }
 
 // Row a, where neither order says that its name comes after another.
-fn kept(a: u32, x: table_row::Order, y: table_row::Order) -> u32
+fn kept(a: u32, x: Ordering, y: Ordering) -> u32
     ensures { result ≡ keep x y a }
 {
-    if not_after(x) {
-        if not_after(y) {
-            return a;
-        }
-    }
-    NONE
-}
-
-// The order of two names, the second first.
-fn turn(x: table_row::Order) -> table_row::Order
-    ensures { result ≡ turned x }
-{
-    match x {
-        table_row::Order::Less => table_row::Order::Greater,
-        table_row::Order::Same => table_row::Order::Same,
-        table_row::Order::Greater => table_row::Order::Less,
-    }
+    if x.is_le() && y.is_le() { a } else { NONE }
 }
 
 // Whether three heads are rows with one name.
@@ -138,8 +112,8 @@ pub fn least_of(t: Tables, h: Rows) -> Rows
     let y = order_at(t.l, b, t.r, c);
     let z = order_at(t.o, a, t.r, c);
     let first = kept(a, x, z);
-    let second = kept(b, turn(x), y);
-    let third = kept(c, turn(z), turn(y));
+    let second = kept(b, x.reverse(), y);
+    let third = kept(c, z.reverse(), y.reverse());
     Rows {
         o: first,
         l: second,

@@ -9,10 +9,10 @@ pub returns : goal.returns
 returns c =
     rw (
       c.kept-third.ensures,
-      c.turn-3.ensures,
-      c.turn-2.ensures,
+      c.reverse-3.ensures,
+      c.reverse-2.ensures,
       c.kept-second.ensures,
-      c.turn.ensures,
+      c.reverse.ensures,
       c.kept-first.ensures,
       c.order_at-z.ensures,
       c.order_at-y.ensures,

@@ -8,18 +8,16 @@ use lib.Seq.{length-take-le}
 use Prim.Native.Nat.{ℕ, ◌*◌, ◌≤◌}
 use mir.Val.{Fits}
 use mir.Syntax.{w32}
+use Rattle.table_rules.specs.Answer.{Answer}
 use Rattle.tree.specs.declared.Profile.{Profile}
 use Rattle.table_row.specs.Keyed.{keyed}
 use Rattle.table_rules.specs.Keyed.{Passes}
-use Rattle.table_rules.specs.declared.Answer.{Answer}
 use Rattle.table_rules.proofs.Passed.{passed-some}
 use Rattle.plan.specs.Settle.{settled}
 use Rattle.plan.specs.Writes.{Fills}
 use Rattle.plan_results.specs.Decisions.{decided}
 use Rattle.plan_run.specs.declared.Counts.{Counts}
-use Rattle.plan_run.specs.declared.Reconciled.{Reconciled}
 use Rattle.plan_run.specs.Run.{Lent, lent, rooms_due}
-use Rattle.plan_run.specs.Answer.{answer_with}
 use Rattle.plan_run.specs.Steps.{rows_of, planned_counts}
 use Rattle.plan_run.proofs.Planned.{Sound, three, settled-fits, items-fit, items-most}
 use Rattle.plan_run.proofs.Steps.{Tried, spacious, entries, settles-accepted, settles-refused}
@@ -39,10 +37,10 @@ module _ {p : Profile} {o l r : List ℕ} where
   )
 
   -- the rooms are tried
-  tried : {s e : List ℕ} {q : ℕ} {c : Counts} {due : Answer} {a : Reconciled} (b : Lent) → Sound p o × Sound p l × Sound p r
+  tried : {s e : List ℕ} {q : ℕ} {c : Counts} {due : Answer} (b : Lent) → Sound p o × Sound p l × Sound p r
       → Fills s (settled (keyed p o) (keyed p l) (keyed p r)) e q → q ≤ length e → c ≡ planned_counts o l r (decided (take q e))
-      → due ≡ rooms_due c (length b.archive) (length b.left) (length b.right) (length b.list) → a ≡ answer_with due c → Tried p o l r s e q b c due a
-  tried b h f m g d i = record {
+      → due ≡ rooms_due c (length b.archive) (length b.left) (length b.right) (length b.list) → Tried p o l r s e q b c due
+  tried b h f m g d = record {
     o-sound = h.0;
     l-sound = h.1;
     r-sound = h.2;
@@ -50,7 +48,6 @@ module _ {p : Profile} {o l r : List ℕ} where
     fits = m;
     counted = g;
     due-is = d;
-    answer-is = i;
   }
 
   -- the plan is not longer than its buffer
@@ -91,16 +88,16 @@ write_results-requires c =
     let a = c.args in
     let h = sound c.requires.passes c.type_inv.o c.type_inv.l c.type_inv.r in
     let m = within h c.settle_in-n.ensures c.requires.r_in_bounds c.settle_in-n.auto.plan in
-    let t = tried (lent a.archive.now a.left.now a.right.now a.list.now a.old) h c.settle_in-n.ensures m c.counts_of-c.ensures c.rooms_due-due.ensures c.answer_with-answer.ensures in
-    record { in_bounds = passed-some _ _ c.requires.passes.1; spacious = spacious t _ c.in-Accepted.is }
+    let t = tried (lent a.archive.now a.left.now a.right.now a.list.now a.old) h c.settle_in-n.ensures m c.counts_of-c.ensures c.rooms_due-due.ensures in
+    record { in_bounds = passed-some _ _ c.requires.passes.1; spacious = spacious t _ c.in-Ok.is }
 
 pub overflow_mul-c : goal.overflow_mul-c
 overflow_mul-c c =
     let a = c.args in
     let h = sound c.requires.passes c.type_inv.o c.type_inv.l c.type_inv.r in
     let m = within h c.settle_in-n.ensures c.requires.r_in_bounds c.settle_in-n.auto.plan in
-    let t = tried (lent a.archive.now a.left.now a.right.now a.list.now a.old) h c.settle_in-n.ensures m c.counts_of-c.ensures c.rooms_due-due.ensures c.answer_with-answer.ensures in
-    let n = entries t _ c.in-Accepted.is c.write_results.new.list c.write_results.auto.list in
+    let t = tried (lent a.archive.now a.left.now a.right.now a.list.now a.old) h c.settle_in-n.ensures m c.counts_of-c.ensures c.rooms_due-due.ensures in
+    let n = entries t _ c.in-Ok.is c.write_results.new.list c.write_results.auto.list in
     search rules
 
 pub slice_bounds-counts-end : goal.slice_bounds-counts-end
@@ -108,17 +105,17 @@ slice_bounds-counts-end c =
     let a = c.args in
     let h = sound c.requires.passes c.type_inv.o c.type_inv.l c.type_inv.r in
     let m = within h c.settle_in-n.ensures c.requires.r_in_bounds c.settle_in-n.auto.plan in
-    let t = tried (lent a.archive.now a.left.now a.right.now a.list.now a.old) h c.settle_in-n.ensures m c.counts_of-c.ensures c.rooms_due-due.ensures c.answer_with-answer.ensures in
-    let n = entries t _ c.in-Accepted.is c.write_results.new.list c.write_results.auto.list in
+    let t = tried (lent a.archive.now a.left.now a.right.now a.list.now a.old) h c.settle_in-n.ensures m c.counts_of-c.ensures c.rooms_due-due.ensures in
+    let n = entries t _ c.in-Ok.is c.write_results.new.list c.write_results.auto.list in
     n.0
 
-pub slice_bounds-counts-end-in-Accepted : goal.slice_bounds-counts-end-in-Accepted
-slice_bounds-counts-end-in-Accepted c =
+pub slice_bounds-counts-end-in-Ok : goal.slice_bounds-counts-end-in-Ok
+slice_bounds-counts-end-in-Ok c =
     let a = c.args in
     let h = sound c.requires.passes c.type_inv.o c.type_inv.l c.type_inv.r in
     let m = within h c.settle_in-n.ensures c.requires.r_in_bounds c.settle_in-n.auto.plan in
-    let t = tried (lent a.archive.now a.left.now a.right.now a.list.now a.old) h c.settle_in-n.ensures m c.counts_of-c.ensures c.rooms_due-due.ensures c.answer_with-answer.ensures in
-    let n = entries t _ c.in-Accepted.is c.write_results.new.list c.write_results.auto.list in
+    let t = tried (lent a.archive.now a.left.now a.right.now a.list.now a.old) h c.settle_in-n.ensures m c.counts_of-c.ensures c.rooms_due-due.ensures in
+    let n = entries t _ c.in-Ok.is c.write_results.new.list c.write_results.auto.list in
     sym (length-take-le _ _ n.0)
 
 pub counts-tally-requires : goal.counts-tally-requires
@@ -126,22 +123,22 @@ counts-tally-requires c =
     let a = c.args in
     let h = sound c.requires.passes c.type_inv.o c.type_inv.l c.type_inv.r in
     let m = within h c.settle_in-n.ensures c.requires.r_in_bounds c.settle_in-n.auto.plan in
-    let t = tried (lent a.archive.now a.left.now a.right.now a.list.now a.old) h c.settle_in-n.ensures m c.counts_of-c.ensures c.rooms_due-due.ensures c.answer_with-answer.ensures in
-    let n = entries t _ c.in-Accepted.is c.write_results.new.list c.write_results.auto.list in
+    let t = tried (lent a.archive.now a.left.now a.right.now a.list.now a.old) h c.settle_in-n.ensures m c.counts_of-c.ensures c.rooms_due-due.ensures in
+    let n = entries t _ c.in-Ok.is c.write_results.new.list c.write_results.auto.list in
     omega (arith, n.1, length-take-le _ _ n.0)
 
-pub returns-in-Accepted : goal.returns-in-Accepted
-returns-in-Accepted c =
+pub returns-in-Ok : goal.returns-in-Ok
+returns-in-Ok c =
     let a = c.args in
     let h = sound c.requires.passes c.type_inv.o c.type_inv.l c.type_inv.r in
     let m = within h c.settle_in-n.ensures c.requires.r_in_bounds c.settle_in-n.auto.plan in
-    let t = tried (lent a.archive.now a.left.now a.right.now a.list.now a.old) h c.settle_in-n.ensures m c.counts_of-c.ensures c.rooms_due-due.ensures c.answer_with-answer.ensures in
-    settles-accepted t _ c.in-Accepted.is _ _ _ _ _ c.write_results.ensures c.write_results.auto.list c.counts-tally.ensures
+    let t = tried (lent a.archive.now a.left.now a.right.now a.list.now a.old) h c.settle_in-n.ensures m c.counts_of-c.ensures c.rooms_due-due.ensures in
+    settles-accepted t _ c.in-Ok.is _ _ _ _ _ c.write_results.ensures c.write_results.auto.list c.counts-tally.ensures
 
-pub returns-in-Refused : goal.returns-in-Refused
-returns-in-Refused c =
+pub returns-in-Err : goal.returns-in-Err
+returns-in-Err c =
     let a = c.args in
     let h = sound c.requires.passes c.type_inv.o c.type_inv.l c.type_inv.r in
     let m = within h c.settle_in-n.ensures c.requires.r_in_bounds c.settle_in-n.auto.plan in
-    let t = tried (lent a.archive.now a.left.now a.right.now a.list.now a.old) h c.settle_in-n.ensures m c.counts_of-c.ensures c.rooms_due-due.ensures c.answer_with-answer.ensures in
-    settles-refused t _ _ _ c.in-Refused.is
+    let t = tried (lent a.archive.now a.left.now a.right.now a.list.now a.old) h c.settle_in-n.ensures m c.counts_of-c.ensures c.rooms_due-due.ensures in
+    settles-refused t c.in-Err.is
