@@ -55,6 +55,7 @@ pub fn scan(t: &[u32], i: usize, d: u32) -> u32
 }
 
 // The order of the names of two rows; a row that is not there comes after every other.
+#[tactic(auto, unfolding(crate::specs::Cursor::order_at))]
 pub fn order_at(w: &[u32], a: u32, v: &[u32], b: u32) -> Ordering
     ensures { result ≡ order_at w.now a v.now b }
 {
@@ -122,6 +123,7 @@ pub fn least_of(t: Tables, h: Rows) -> Rows
 }
 
 // Behind the entry at row t, if there is one, to the next of depth d; else where we were.
+#[tactic(auto, unfolding(crate::specs::Cursor::behind))]
 pub fn behind_at(w: &[u32], d: u32, a: u32, t: u32) -> u32
     requires { length w.now ≤ 81920 }
     ensures { result ≡ behind w.now d a t }

@@ -8,6 +8,7 @@ ghost use Rattle.plan.specs.Writes.{Writes};
 use plan_cursor::{Decision, Rows, Tables};
 
 // A decision's four words.
+#[tactic(auto, unfolding(plan::specs::Settle::decision_words))]
 fn words_of(d: Decision) -> [u32; 4]
     ensures { result ≡ decision_words d }
 {
@@ -20,6 +21,7 @@ fn words_of(d: Decision) -> [u32; 4]
 }
 
 // An item into the plan at place at; the next place.
+#[tactic(auto, using(plan::proofs::Writes::copied))]
 pub fn push(plan: &mut [u32], at: usize, d: Decision) -> usize
     requires { at + 4 ≤ length plan.old }
     ensures { Writes plan.old at (decision_words d) plan.new result }
