@@ -1,12 +1,25 @@
 // What is printed for three tables: their plan.
 #![tactic(auto)]
 
+ghost use Rattle.std.specs.Prelude.{◌≡◌};
 ghost use Rattle.table_row.specs.Tree.{tree_of};
 ghost use Rattle.listing_spell.specs.Puts.{Puts};
+ghost use Rattle.plan_run.specs.Answer.{entries_of};
 ghost use Rattle.plan_text.specs.Spelled.{run_text};
 ghost use Rattle.printout_text.specs.Tables.{IsTable};
 
+use plan_run::Reconciled;
 use tree::Profile;
+
+// The entries of the list that a run made; none where it is refused.
+fn entries(answer: Reconciled) -> usize
+    ensures { result ≡ entries_of answer }
+{
+    match answer {
+        Ok(made) => made.list,
+        Err(_) => 0,
+    }
+}
 
 // The plan of three tables: 382 rows hold any result of theirs, and as many entries any list.
 pub fn put_run(profile: Profile, out: &mut [u8], o: &[u32], l: &[u32], r: &[u32]) -> usize
@@ -33,7 +46,6 @@ pub fn put_run(profile: Profile, out: &mut [u8], o: &[u32], l: &[u32], r: &[u32]
         &mut list,
         none,
     );
-    let answer = ran.answer;
-    let end = 3 * answer.list;
+    let end = 3 * entries(ran.answer);
     plan_text_put::put_plan(out, 0, &list[..end], l, r, ran.tally)
 }
