@@ -23,7 +23,7 @@ use Rattle.listing_spell.specs.Puts.{Puts}
 use Rattle.plan.specs.Items.{list_words}
 use Rattle.plan.proofs.Bound.{Takes, result-bound, lines-bound}
 use Rattle.plan_tally.specs.Count.{tally_of}
-use Rattle.plan_run.specs.declared.Reconciled.{Reconciled}
+use Rattle.plan_run.specs.Answer.{Reconciled, entries_of}
 use Rattle.plan_run.specs.Run.{given, Lent, ReconcileContract, run_due, run_of}
 use Rattle.plan_run.proofs.Accepted.{Room, accepted}
 use Rattle.plan_text.specs.Words.{plan_bytes}
@@ -128,7 +128,7 @@ module _ (p : Profile) (o l r : List ℕ) (O : IsTable p o) (L : IsTable p l) (R
     due : run_due p o l r b ≡ Ok 0
     due = accepted p o l r b (record { archive-passes = passes p o O; left-passes = passes p l L; right-passes = passes p r R; room = room b A })
 
-    pub entries : answer.list ≡ length (given p o l r).lines
+    pub entries : entries_of answer ≡ length (given p o l r).lines
     unfolding run_of
     entries = rw (C.answered, due)
 
@@ -140,14 +140,14 @@ module _ (p : Profile) (o l r : List ℕ) (O : IsTable p o) (L : IsTable p l) (R
     unfolding run_of
     counted = rw (C.left_in, due)
 
-    pub entries-few : 3 * answer.list ≤ 1146
+    pub entries-few : 3 * entries_of answer ≤ 1146
     entries-few = let h = sum in let n = lines-bound fo fl fr so sl sr in rw entries (omega arith)
 
     -- what is put for the entries that the answer counts is the plan
-    pub put-plan : (d : List ℕ) (most next : ℕ) (after : List ℕ) → Words32 l → Words32 r → Puts d 0 (plan_bytes l r (take (3 * answer.list) a.list) a.tally) most next after
+    pub put-plan : (d : List ℕ) (most next : ℕ) (after : List ℕ) → Words32 l → Words32 r → Puts d 0 (plan_bytes l r (take (3 * entries_of answer) a.list) a.tally) most next after
         → Puts d 0 (run_text p (tree_of o) (tree_of l) (tree_of r)) 1048576 next after
     put-plan d most next after wl wr q =
-        let e : plan_bytes l r (take (3 * answer.list) a.list) a.tally ≡ run_text p (tree_of o) (tree_of l) (tree_of r) =
+        let e : plan_bytes l r (take (3 * entries_of answer) a.list) a.tally ≡ run_text p (tree_of o) (tree_of l) (tree_of r) =
         rw (entries, listed, counted, list-part fl fr b.list (given p o l r).lines) (run-text p l r (passes p l L) (passes p r R) wl wr o) in
         let u = rw e at q in
         let n = run_length p (tree_of o) (tree_of l) (tree_of r) (formed p o O) (formed p l L) (formed p r R) in

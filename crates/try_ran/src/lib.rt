@@ -3,7 +3,7 @@
 
 ghost use Rattle.std.specs.Prelude.{◌≤◌};
 
-use plan_run::Ran;
+use plan_run::{Counts, Ran, Reconciled};
 use std::io;
 
 // The words of a room: those in field k of a line, or all of it where the line has no such field.
@@ -16,17 +16,32 @@ pub fn room(line: &[u8], k: usize, most: usize) -> usize
     try_fields::count(line, k).min(most)
 }
 
+// What a run made; nothing where it is refused.
+pub fn counts(answer: Reconciled) -> Counts {
+    let none = Counts {
+        archive: 0,
+        left: 0,
+        right: 0,
+        list: 0,
+    };
+    answer.unwrap_or(none)
+}
+
 // What was answered, and the tally.
 pub fn print_ran(rt: &impl Print, ran: Ran) -> io::Result<()> {
-    let a = ran.answer;
-    try_show::print_number(rt, a.number as usize)?;
-    try_show::print_number(rt, a.side as usize)?;
-    try_show::print_number(rt, a.place)?;
+    if let Err(refusal) = ran.answer {
+        try_show::print_number(rt, refusal.number as usize)?;
+        try_show::print_number(rt, refusal.side as usize)?;
+        try_show::print_number(rt, refusal.place)?;
+    } else {
+        try_show::print(rt, b" 0 0 0")?;
+    }
+    let made = counts(ran.answer);
     try_show::print(rt, b" counts")?;
-    try_show::print_number(rt, a.archive)?;
-    try_show::print_number(rt, a.left)?;
-    try_show::print_number(rt, a.right)?;
-    try_show::print_number(rt, a.list)?;
+    try_show::print_number(rt, made.archive)?;
+    try_show::print_number(rt, made.left)?;
+    try_show::print_number(rt, made.right)?;
+    try_show::print_number(rt, made.list)?;
     let t = ran.tally;
     try_show::print(rt, b" tally")?;
     try_show::print_number(rt, t.left as usize)?;

@@ -1,7 +1,7 @@
 // One reconciliation in a profile, in rooms that a line may give; its answer, its tally and its list are printed.
 #![tactic(auto)]
 
-use plan_run::Reconciled;
+use plan_run::Counts;
 use plan_tally::Tally;
 use std::io;
 use tree::Profile;
@@ -18,7 +18,7 @@ pub fn tell_run(
     left: &mut [u32],
     right: &mut [u32],
     list: &mut [u32],
-) -> io::Result<Reconciled> {
+) -> io::Result<Counts> {
     let a = try_ran::room(line, 4, archive.len());
     let b = try_ran::room(line, 5, left.len());
     let c = try_ran::room(line, 6, right.len());
@@ -38,7 +38,7 @@ pub fn tell_run(
             clash: 9,
         },
     );
-    let n = ran.answer;
+    let n = try_ran::counts(ran.answer);
     try_ran::print_ran(rt, ran)?;
     try_ran::print_list(rt, list, n.list)?;
     Ok(n)
