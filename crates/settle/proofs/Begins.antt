@@ -1,5 +1,6 @@
 -- Where clashes begin: a clash has a place on both sides, and the lines of the rerun and of the closing run have the places that
 -- they had in the first run.
+use Rattle.std.proofs.Common.{Option, Some, None}
 use mathlib.Core.Bool.{Bool, true, false}
 use mathlib.Core.List.{[], ◌∷◌, map}
 use mathlib.Core.Logic.{inl, inr}
@@ -12,8 +13,6 @@ use Rattle.tree.specs.Same.{same_node}
 use Rattle.tree.specs.Key.{fold}
 use Rattle.tree.specs.Preorder.{preorder, compared}
 use Rattle.tree.specs.declared.Profile.{Profile}
-use Rattle.tree.specs.declared.Compared.{Compared}
-use Rattle.tree.specs.declared.Compared.TheVariants.{Equal, DifferAt}
 use Rattle.tree.proofs.Never.{never}
 use Rattle.tree.proofs.Same.{same_node-true}
 use Rattle.tree.proofs.Size.{rows-beneath}
@@ -132,9 +131,9 @@ side-begins o s p e = go (compared x y) refl (compared-within x y)
     y : Node
     y = at (folder o) p
 
-    go : (c : Compared) → compared x y ≡ c → Within (preorder x) (preorder y) c → Begins o s p (place_of (compared x y))
-    go Equal h w = let t = same_node-true x y (compared-equal x y h) in never (cc)
-    go (DifferAt k) h w = record { differs = rw h; side = rw h w.0; archive = rw h w.1 }
+    go : (c : Option ℕ) → compared x y ≡ c → Within (preorder x) (preorder y) c → Begins o s p (place_of (compared x y))
+    go None h w = let t = same_node-true x y (compared-equal x y h) in never (cc)
+    go (Some k) h w = record { differs = rw h; side = rw h w.0; archive = rw h w.1 }
 
 clash-differs : (o l r : Node) → decide o l r ≡ clash → (same_node l o ≡ false) × (same_node r o ≡ false)
 unfolding decide

@@ -1,18 +1,16 @@
 -- Where a clash begins: for each side the first place at which its subtree differs from the archive's.
-use Rattle.std.specs.Prelude.{◌≡◌, List, map, length, ℕ, ◌≤◌}
+use Rattle.std.specs.Prelude.{◌≡◌, List, map, length, ℕ, ◌≤◌, Option, Some, None}
 use Rattle.tree.specs.Forest.{TreePath, Forest, Node.folder, at}
 use Rattle.tree.specs.Preorder.{preorder, compared}
-use Rattle.tree.specs.declared.Compared.{Compared}
-use Rattle.tree.specs.declared.Compared.TheVariants.{Equal, DifferAt}
 use Rattle.settle.specs.Decision.{Decision.agreed, Decision.left_gets, Decision.right_gets, Decision.clash}
 use Rattle.settle.specs.Results.{Line, Line.line, Lines}
 
 abbrev pub no_place : ℕ
 no_place = 4294967295
 
-abbrev pub place_of : Compared → ℕ
-place_of Equal = no_place
-place_of (DifferAt k) = k
+abbrev pub place_of : Option ℕ → ℕ
+place_of None = no_place
+place_of (Some k) = k
 
 -- where the side s differs from the archive o at the path of a clash; other lines have no place
 unfoldable pub place_in : Forest → Forest → Line → ℕ
@@ -34,6 +32,6 @@ places o l r xs = map (places_in o l r) xs
 
 -- on the side s a clash at p begins at the place k: there the two subtrees differ first, and each has at least k entries
 pub record Begins (o s : Forest) (p : TreePath) (k : ℕ) : Type 0 where
-  pub differs : compared (at (folder s) p) (at (folder o) p) ≡ DifferAt k
+  pub differs : compared (at (folder s) p) (at (folder o) p) ≡ Some k
   pub side : k ≤ length (preorder (at (folder s) p))
   pub archive : k ≤ length (preorder (at (folder o) p))

@@ -20,7 +20,8 @@ fn both_pass(profile: Profile, left: &[u32], right: &[u32]) -> bool
     passes(profile, left) && passes(profile, right)
 }
 
-// The rows that a list entry of a kind carries: the right's where left gets, the left's where right gets, else none.
+// The rows that a list entry of a kind carries: the right's where left gets, the left's where right gets, else none. The kind is a
+// word of the list, which C hands back.
 pub fn carried<'a>(
     profile: Profile,
     left: &'a [u32],

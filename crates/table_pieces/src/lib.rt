@@ -56,7 +56,8 @@ fn put_in(
     })
 }
 
-// A move by the target's keys, a path of keys, and where the source has it: numbers 4 and 3.
+// A move by the target's keys, a path of keys, and where the source has it: numbers 4 and 3. What is known of the target and its
+// keys together stands in the records of table_moved (Inputs, Ready, Joins), which a struct of the two would say again.
 pub fn carry_in(
     profile: Profile,
     target: &[u32],

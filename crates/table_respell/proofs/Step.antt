@@ -45,29 +45,6 @@ written-named d a b c x y z i k l h X Y Z =
     let n : l ≡ i + length (a ++ b) = omega (arith, X.0, Y.0, length-append a b) in
     Z ∙ ap₂ (λ (v : List ℕ) (n : ℕ). written v n c) u n ∙ written-append d (a ++ b) c i h ∙ rw append_assoc
 
--- the eight words of a row's name, one by one
-more : (w : List ℕ) (a j n : ℕ) → a + j < length w → take (suc n) (drop (a + j) w) ≡ get_or w (a + j) 0 ∷ take n (drop (a + suc j) w)
-more w a j n h = let e : suc (a + j) ≡ a + suc j = omega arith in rw (drop-cons w (a + j) 0 h, e)
-
-eight : (w : List ℕ) (a : ℕ) → a + 8 ≤ length w
-    → get_or w a 0 ∷ get_or w (a + 1) 0 ∷ get_or w (a + 2) 0 ∷ get_or w (a + 3) 0 ∷ get_or w (a + 4) 0 ∷ get_or w (a + 5) 0 ∷ get_or w (a + 6) 0 ∷ get_or w (a + 7) 0 ∷ [] ≡ take 8 (drop a w)
-eight w a h =
-    let first : take 8 (drop a w) ≡ get_or w a 0 ∷ take 7 (drop (a + 1) w) = rw add-one (rw (drop-cons w a 0 (omega arith))) in
-    rw (
-      first,
-      more w a 1 6 (omega arith),
-      more w a 2 5 (omega arith),
-      more w a 3 4 (omega arith),
-      more w a 4 3 (omega arith),
-      more w a 5 2 (omega arith),
-      more w a 6 1 (omega arith),
-      more w a 7 0 (omega arith),
-    )
-
-pub eight-words : (w : List ℕ) (i : ℕ) → 20 * (i + 1) ≤ length w → (let a : ℕ = 20 * i + 2 in
-    get_or w a 0 ∷ get_or w (a + 1) 0 ∷ get_or w (a + 2) 0 ∷ get_or w (a + 3) 0 ∷ get_or w (a + 4) 0 ∷ get_or w (a + 5) 0 ∷ get_or w (a + 6) 0 ∷ get_or w (a + 7) 0 ∷ []) ≡ name (row_at w i)
-eight-words w i h = eight w (20 * i + 2) (omega arith) ∙ sym (name-at w i)
-
 length-spelled : (w : List ℕ) (c : Option ℕ) (r : Row) → Inside w c → length r ≡ 20 → length (spelled w c r) ≡ 20
 length-spelled w (Some i) r g h =
     let e = name-length w i (omega arith) in

@@ -13,17 +13,9 @@ pub fn name_of(t: &[u32], i: usize) -> [u32; 8]
     requires { 20 * (i + 1) ≤ length t.now }
     ensures { result ≡ name (row_at t.now i) }
 {
-    let a = 20 * i + 2;
-    [
-        t[a],
-        t[a + 1],
-        t[a + 2],
-        t[a + 3],
-        t[a + 4],
-        t[a + 5],
-        t[a + 6],
-        t[a + 7],
-    ]
+    let mut words = [0; 8];
+    words.copy_from_slice(table_row::name(t, i));
+    words
 }
 
 // The entry of a name's key in a folder that there may be.

@@ -6,7 +6,8 @@ ghost use Rattle.tree.specs.Same.{same_words};
 ghost use Rattle.table_row.specs.Table.{row_at, name};
 ghost use Rattle.table_row.specs.Buffer.{written};
 
-// Word j of row i.
+// Word j of row i. A row is told by its table and its number, and not by a slice of its own: its place in the table is what is
+// asked for and written, and a caller would owe the same bound to the slice.
 pub fn word(t: &[u32], i: usize, j: usize) -> u32
     requires { (20 * i + 20 ≤ length t.now) × (j < 20) }
     ensures { result ≡ get_or (row_at t.now i) j 0 }
@@ -14,7 +15,7 @@ pub fn word(t: &[u32], i: usize, j: usize) -> u32
     t[20 * i + j]
 }
 
-// A word as an index.
+// A word as an index, with its bound: std has no From for it.
 pub fn wide(x: u32) -> usize
     ensures { (result ≡ x) × (result < 4294967296) }
 {

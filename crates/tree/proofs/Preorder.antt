@@ -1,5 +1,6 @@
--- Two trees compared in preorder: the answer is Equal exactly when they are, a place is the first where they differ, and trees of
+-- Two trees compared in preorder: the answer is None exactly when they are, a place is the first where they differ, and trees of
 -- keys are compared by key.
+use Rattle.std.proofs.Common.{Option, Some, None}
 use mathlib.Core.Path.{◌≡◌, refl, sym, ap, subst, ◌∙◌}
 use mathlib.Core.List.{List, [], ◌∷◌, ◌++◌, map, append_assoc, append-nil, map-append}
 use mathlib.Core.Bool.{Bool, true, false, cond}
@@ -13,8 +14,6 @@ use Rattle.tree.specs.Same.{same_words, same_node}
 use Rattle.tree.specs.Key.{key, fold, fold_node}
 use Rattle.tree.specs.declared.Profile.{Profile}
 use Rattle.tree.specs.declared.Profile.TheVariants.{Exact, Folded}
-use Rattle.tree.specs.declared.Compared.{Compared}
-use Rattle.tree.specs.declared.Compared.TheVariants.{Equal, DifferAt}
 use Rattle.tree.specs.Preorder.{Entry, Entry.file_at, Entry.folder_at, same_entry, entries, preorder, next, compare_by, compared, DifferFirst, Says, keyed_entry, same_by_key}
 use Rattle.tree.proofs.Never.{never}
 use Rattle.tree.proofs.Size.{row_count}
@@ -43,9 +42,9 @@ compare-cong P f g h (x ∷ xs) [] a b = refl
 compare-cong P f g h (x ∷ xs) (y ∷ ys) a b = rw (h x y a.0 b.0, compare-cong P f g h xs ys a.1 b.1)
 
 -- a place is at most the end of both
-abbrev pub Within : {A : Type 0} → List A → List A → Compared → Type 0
-Within xs ys Equal = Unit {0}
-Within xs ys (DifferAt k) = (k ≤ length xs) × (k ≤ length ys)
+abbrev pub Within : {A : Type 0} → List A → List A → Option ℕ → Type 0
+Within xs ys None = Unit {0}
+Within xs ys (Some k) = (k ≤ length xs) × (k ≤ length ys)
 
 lists-within : {A : Type 0} (f : A → A → Bool) (xs ys : List A) → Within xs ys (compare_by f xs ys)
 unfolding compare_by
@@ -54,9 +53,9 @@ lists-within f [] (y ∷ ys) = (omega arith, omega arith)
 lists-within f (x ∷ xs) [] = (omega arith, omega arith)
 lists-within f (x ∷ xs) (y ∷ ys) = go (f x y) (compare_by f xs ys) (lists-within f xs ys)
   where
-    go : (b : Bool) (c : Compared) → Within xs ys c → Within (x ∷ xs) (y ∷ ys) (cond b (next c) (DifferAt 0))
-    go true Equal h = tt
-    go true (DifferAt k) h = (omega arith, omega arith)
+    go : (b : Bool) (c : Option ℕ) → Within xs ys c → Within (x ∷ xs) (y ∷ ys) (cond b (next c) (Some 0))
+    go true None h = tt
+    go true (Some k) h = (omega arith, omega arith)
     go false c h = (omega arith, omega arith)
 
 -- ENTRIES
@@ -87,9 +86,9 @@ entry-test x y b h g = go b (same_entry x y) refl refl
     go false true i j = let e = h (entry-same x y j) in never (cc)
 
 -- the answer on two lists of entries
-abbrev ListSays : List Entry → List Entry → Compared → Type 0
-ListSays xs ys Equal = xs ≡ ys
-ListSays xs ys (DifferAt k) = DifferFirst xs ys k
+abbrev ListSays : List Entry → List Entry → Option ℕ → Type 0
+ListSays xs ys None = xs ≡ ys
+ListSays xs ys (Some k) = DifferFirst xs ys k
 
 list-says : (xs ys : List Entry) → ListSays xs ys (compare_by same_entry xs ys)
 unfolding compare_by
@@ -98,9 +97,9 @@ list-says [] (y ∷ ys) = record { before = refl; there = λ e. never (cc) }
 list-says (x ∷ xs) [] = record { before = refl; there = λ e. never (cc) }
 list-says (x ∷ xs) (y ∷ ys) = go (same_entry x y) refl (compare_by same_entry xs ys) (list-says xs ys)
   where
-    go : (b : Bool) → same_entry x y ≡ b → (c : Compared) → ListSays xs ys c → ListSays (x ∷ xs) (y ∷ ys) (cond b (next c) (DifferAt 0))
-    go true e Equal h = let i = entry-same x y e in cc
-    go true e (DifferAt k) h = record {
+    go : (b : Bool) → same_entry x y ≡ b → (c : Option ℕ) → ListSays xs ys c → ListSays (x ∷ xs) (y ∷ ys) (cond b (next c) (Some 0))
+    go true e None h = let i = entry-same x y e in cc
+    go true e (Some k) h = record {
       before = let i = entry-same x y e in let j = h.before in cc;
       there = λ z. h.there (cc);
     }
@@ -165,34 +164,34 @@ pub compared-says : (x y : Node) → Says x y (compared x y)
 unfolding compared
 compared-says x y = go (compare_by same_entry (preorder x) (preorder y)) (list-says (preorder x) (preorder y))
   where
-    go : (c : Compared) → ListSays (preorder x) (preorder y) c → Says x y c
-    go Equal h = preorder-same x y h
-    go (DifferAt k) h = h
+    go : (c : Option ℕ) → ListSays (preorder x) (preorder y) c → Says x y c
+    go None h = preorder-same x y h
+    go (Some k) h = h
 
--- Equal exactly when the trees are
-pub compared-equal : (x y : Node) → compared x y ≡ Equal → x ≡ y
+-- None exactly when the trees are
+pub compared-equal : (x y : Node) → compared x y ≡ None → x ≡ y
 compared-equal x y e = rw e at (compared-says x y)
 
-pub equal-compared : (x y : Node) → x ≡ y → compared x y ≡ Equal
+pub equal-compared : (x y : Node) → x ≡ y → compared x y ≡ None
 equal-compared x y e = go (compared x y) (compared-says x y)
   where
-    go : (c : Compared) → Says x y c → c ≡ Equal
-    go Equal h = refl
-    go (DifferAt k) h = absurd (h.there (ap (λ (z : Node). take (suc k) (preorder z)) e))
+    go : (c : Option ℕ) → Says x y c → c ≡ None
+    go None h = refl
+    go (Some k) h = absurd (h.there (ap (λ (z : Node). take (suc k) (preorder z)) e))
 
-abbrev pub is_equal : Compared → Bool
-is_equal Equal = true
-is_equal (DifferAt k) = false
+abbrev pub is_equal : Option ℕ → Bool
+is_equal None = true
+is_equal (Some k) = false
 
 -- so the test of two trees is its answer
 pub compared-test : (x y : Node) → same_node x y ≡ is_equal (compared x y)
 compared-test x y = go (same_node x y) (compared x y) refl refl
   where
-    go : (b : Bool) (c : Compared) → same_node x y ≡ b → compared x y ≡ c → b ≡ is_equal c
-    go true Equal i j = refl
-    go false (DifferAt k) i j = refl
-    go true (DifferAt k) i j = let e = equal-compared x y (same_node-eq x y i) in cc
-    go false Equal i j = let e = same_node-true x y (compared-equal x y j) in never (cc)
+    go : (b : Bool) (c : Option ℕ) → same_node x y ≡ b → compared x y ≡ c → b ≡ is_equal c
+    go true None i j = refl
+    go false (Some k) i j = refl
+    go true (Some k) i j = let e = equal-compared x y (same_node-eq x y i) in cc
+    go false None i j = let e = same_node-true x y (compared-equal x y j) in never (cc)
 
 pub compared-within : (x y : Node) → Within (preorder x) (preorder y) (compared x y)
 unfolding compared

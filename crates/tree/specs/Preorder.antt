@@ -1,12 +1,10 @@
 -- Where two trees differ first: their entries in preorder, and how many of these at the front are the same.
-use Rattle.std.specs.Prelude.{◌≡◌, List, [], ◌∷◌, ◌++◌, Bool, false, cond, ◌&&◌, eqb, take, ℕ, suc}
+use Rattle.std.specs.Prelude.{◌≡◌, List, [], ◌∷◌, ◌++◌, Bool, false, cond, ◌&&◌, eqb, take, ℕ, suc, Option, Some, None}
 use Rattle.tree.specs.Name.{Name}
 use Rattle.tree.specs.Forest.{Content, Forest, Forest.end, Forest.leaf, Forest.dir, Node, Node.absent, Node.file, Node.folder}
 use Rattle.tree.specs.Same.{same_words}
 use Rattle.tree.specs.Key.{key}
 use Rattle.tree.specs.declared.Profile.{Profile}
-use Rattle.tree.specs.declared.Compared.{Compared}
-use Rattle.tree.specs.declared.Compared.TheVariants.{Equal, DifferAt}
 
 -- an entry with its depth, its name and, of a file, its content
 pub data Entry : Type 0 where
@@ -31,18 +29,18 @@ preorder absent = []
 preorder (file c) = file_at 0 [] c ∷ []
 preorder (folder k) = folder_at 0 [] ∷ entries 1 k
 
-abbrev pub next : Compared → Compared
-next Equal = Equal
-next (DifferAt k) = DifferAt (suc k)
+abbrev pub next : Option ℕ → Option ℕ
+next None = None
+next (Some k) = Some (suc k)
 
 -- two lists compared by a test: equal, or the first place where they differ; one that is shorter differs where it ends
-unfoldable pub compare_by : {A : Type 0} → (A → A → Bool) → List A → List A → Compared
-compare_by f [] [] = Equal
-compare_by f [] (y ∷ ys) = DifferAt 0
-compare_by f (x ∷ xs) [] = DifferAt 0
-compare_by f (x ∷ xs) (y ∷ ys) = cond (f x y) (next (compare_by f xs ys)) (DifferAt 0)
+unfoldable pub compare_by : {A : Type 0} → (A → A → Bool) → List A → List A → Option ℕ
+compare_by f [] [] = None
+compare_by f [] (y ∷ ys) = Some 0
+compare_by f (x ∷ xs) [] = Some 0
+compare_by f (x ∷ xs) (y ∷ ys) = cond (f x y) (next (compare_by f xs ys)) (Some 0)
 
-unfoldable pub compared : Node → Node → Compared
+unfoldable pub compared : Node → Node → Option ℕ
 compared x y = compare_by same_entry (preorder x) (preorder y)
 
 -- what stands before the place k is the same in both, and what stands there is not
@@ -51,9 +49,9 @@ pub record DifferFirst (xs ys : List Entry) (k : ℕ) : Type 0 where
   pub there : ¬ (take (suc k) xs ≡ take (suc k) ys)
 
 -- what an answer says of two trees
-abbrev pub Says : Node → Node → Compared → Type 0
-Says x y Equal = x ≡ y
-Says x y (DifferAt k) = DifferFirst (preorder x) (preorder y) k
+abbrev pub Says : Node → Node → Option ℕ → Type 0
+Says x y None = x ≡ y
+Says x y (Some k) = DifferFirst (preorder x) (preorder y) k
 
 -- an entry with its name's key
 abbrev pub keyed_entry : Profile → Entry → Entry
