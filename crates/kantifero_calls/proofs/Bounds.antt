@@ -1,5 +1,5 @@
 -- The places of answers: a row of a table, or the rows or bytes written.
-use Rattle.std.proofs.Common.{Ok, Err}
+use Rattle.std.proofs.Common.{Ok, Err, Option, Some, None, option_map}
 use mathlib.Core.Path.{◌≡◌, refl}
 use mathlib.Core.List.{List, [], ◌∷◌}
 use mathlib.Core.Bool.{Bool, true, false, cond, ◌&&◌}
@@ -14,8 +14,7 @@ use Rattle.tree.specs.declared.Profile.TheVariants.{Exact, Folded}
 use Rattle.tree.proofs.Same.{and-true}
 use Rattle.table_row.specs.Table.{Row, rows}
 use Rattle.table_row.specs.Tree.{tree_of}
-use Rattle.table_rules.specs.declared.Checked.{Checked}
-use Rattle.table_rules.specs.declared.Checked.TheVariants.{Fine, BadLength, BadRow}
+use Rattle.table_rules.specs.declared.Fault.TheVariants.{BadLength, BadRow}
 use Rattle.table_rules.specs.Answer.{place_of, is_accepted, Answer, refusal}
 use Rattle.table_rules.specs.Refusal.{refusal_of, twins_due}
 use Rattle.table_rules.specs.Rules.{sized}
@@ -34,12 +33,12 @@ unfolding sized
 few w e = leb-true (length w / 20) 4096 (and-true (eqb (length w % 20) 0 && leb 1 (length w / 20)) (leb (length w / 20) 4096) e).1
 
 -- the lowest row that fails a test is one of at most 4,096
-row-place : (t : List Row → Row → Bool) (w : List ℕ) (f : Checked → Answer) → place_of (f Fine) ≡ 0 → ((i : ℕ) → place_of (f (BadRow i)) ≡ i) → sized w ≡ true
+row-place : (t : List Row → Row → Bool) (w : List ℕ) (f : Option ℕ → Answer) → place_of (f None) ≡ 0 → ((i : ℕ) → place_of (f (Some i)) ≡ i) → sized w ≡ true
     → place_of (f (lowest t w)) ≤ 4096
 unfolding lowest
 row-place t w f a b e = go (ltb (lead_by t [] (rows w)) (length w / 20)) refl
   where
-    go : (l : Bool) → ltb (lead_by t [] (rows w)) (length w / 20) ≡ l → place_of (f (cond l (BadRow (lead_by t [] (rows w))) Fine)) ≤ 4096
+    go : (l : Bool) → ltb (lead_by t [] (rows w)) (length w / 20) ≡ l → place_of (f (cond l (Some (lead_by t [] (rows w))) None)) ≤ 4096
     go true h = omega (arith, b (lead_by t [] (rows w)), few w e, ltb-true (lead_by t [] (rows w)) (length w / 20) h)
     go false h = omega (arith, a)
 
@@ -47,8 +46,8 @@ pub refusal-place : (p : Profile) (w : List ℕ) (side : ℕ) → place_of (refu
 unfolding checked_in
 refusal-place p w side = go (sized w) refl
   where
-    go : (s : Bool) → sized w ≡ s → place_of (refusal_of (cond s (lowest (ok_row_in p) w) BadLength) side) ≤ 4096
-    go true e = row-place (ok_row_in p) w (λ c. refusal_of c side) refl (λ i. refl) e
+    go : (s : Bool) → sized w ≡ s → place_of (refusal_of (cond s (option_map BadRow (lowest (ok_row_in p) w)) (Some BadLength)) side) ≤ 4096
+    go true e = row-place (ok_row_in p) w (λ c. refusal_of (option_map BadRow c) side) refl (λ i. refl) e
     go false e = omega arith
 
 -- where 1 and 2 are not due

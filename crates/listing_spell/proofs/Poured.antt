@@ -8,7 +8,8 @@ use lib.ListN.{length, drop, get_or, set, length-append, drop_of_length-le}
 use lib.Seq.{sets-eq, length-sets, drop-cons}
 use Prim.Native.Nat.{ℕ, suc, ◌+◌, ◌≤◌, ◌<◌}
 use Rattle.table_row.specs.Buffer.{over}
-use Rattle.listing_spell.specs.Puts.{poured, Puts}
+use Rattle.listing_spell.specs.declared.Text.{Text}
+use Rattle.listing_spell.specs.Puts.{poured, Puts, Wrote}
 
 pub length-poured : (d : List ℕ) (at : ℕ) (s : List ℕ) → length (poured d at s) ≡ length d
 unfolding poured
@@ -72,3 +73,37 @@ module _ {d : List ℕ} {at : ℕ} {s e : List ℕ} {p : ℕ} where
   -- no byte of w is left
   pub left_end : (w : List ℕ) (k most : ℕ) → length w ≤ k → p ≤ at + most → Left d at s e p (drop k w) → Puts d at s most p e
   left_end w k most g h L = left-none most h (rw (drop_of_length-le w g) at L)
+
+-- of the bytes s that were to be put into the text t, r is left to be put into what it became
+pub record Rest (t : Text) (s : List ℕ) (u : Text) (r : List ℕ) : Type 0 where
+  pub same : u.out.ghost_name ≡ t.out.ghost_name
+  pub left : Left t.out.now t.at s u.out.now u.at r
+
+pub rest-all : (t : Text) (s : List ℕ) → Rest t s t s
+rest-all t s = record { same = refl; left = left-all _ _ _ }
+
+module _ {t : Text} {s : List ℕ} {u : Text} where
+  -- a piece is put
+  pub rest_less : {a : List ℕ} {most : ℕ} {v : Text} (r : List ℕ) → Rest t s u (a ++ r) → Wrote u a most v → Rest t s v r
+  rest_less r L P = record { same = P.same ∙ L.same; left = left_less r L.left P.puts }
+
+  -- nothing is left
+  pub rest-none : (most : ℕ) → u.at ≤ t.at + most → Rest t s u [] → Wrote t s most u
+  rest-none most h L = record { same = L.same; puts = left-none most h L.left }
+
+  -- the last piece is put
+  pub rest-last : {a : List ℕ} {most : ℕ} {v : Text} (more : ℕ) → Rest t s u a → Wrote u a most v → v.at ≤ t.at + more → Wrote t s more v
+  rest-last more L P h = record { same = P.same ∙ L.same; puts = left-last more L.left P.puts h }
+
+  -- a byte of w is put
+  pub rest-byte : (w : List ℕ) (k : ℕ) {most : ℕ} {v : Text} → k < length w → Rest t s u (drop k w) → Wrote u (get_or w k 0 ∷ []) most v
+      → Rest t s v (drop (k + 1) w)
+  rest-byte w k h L P = record { same = P.same ∙ L.same; left = left-byte w k h L.left P.puts }
+
+  -- no byte of w is left
+  pub rest_end : (w : List ℕ) (k most : ℕ) → length w ≤ k → u.at ≤ t.at + most → Rest t s u (drop k w) → Wrote t s most u
+  rest_end w k most g h L = record { same = L.same; puts = left_end w k most g h L.left }
+
+-- a wider bound on what is put into a text
+pub wrote-within : {t u : Text} {s : List ℕ} {most : ℕ} (more : ℕ) → most ≤ more → Wrote t s most u → Wrote t s more u
+wrote-within more h P = record { same = P.same; puts = puts-within more h P.puts }

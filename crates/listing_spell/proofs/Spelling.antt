@@ -1,11 +1,15 @@
 -- What is still to be spelled of a name or a digest, byte by byte.
 use mathlib.Core.Path.{◌≡◌}
 use mathlib.Core.List.{List, [], ◌∷◌, ◌++◌}
+use native.Mathlib.Omega.{arith}
 use native.Mathlib.Numerals.{add-one}
 use lib.ListN.{length, drop, get_or, drop_of_length-le}
 use lib.Seq.{drop-cons}
 use Prim.Native.Nat.{ℕ, ◌+◌, ◌/◌, ◌%◌, ◌≤◌, ◌<◌}
 use borrow.Author.Tests.{eq-eqb, ne_eqb}
+use Rattle.std.specs.Int.{to_be_bytes}
+use Rattle.std.proofs.Common.{w32}
+use Rattle.tree.specs.Rules.{bytes}
 use Rattle.listing.specs.Writing.{spell_byte, spell, hex_digit, hex}
 
 module _ (bs : List ℕ) (k : ℕ) where
@@ -30,3 +34,8 @@ module _ (bs : List ℕ) (k : ℕ) where
   pub hex-end : length bs ≤ k → hex (drop k bs) ≡ []
   unfolding hex
   hex-end h = rw (drop_of_length-le bs h)
+
+-- a word's bytes, the highest first
+pub be-bytes : (x : ℕ) → x < 4294967296 → to_be_bytes w32 x ≡ bytes (x ∷ [])
+unfolding bytes
+be-bytes x h = let e : x / 16777216 % 256 ≡ x / 16777216 = omega arith in rw e

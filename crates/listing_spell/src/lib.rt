@@ -1,34 +1,16 @@
-// Bytes put into a text, and a name spelled.
+// A text that is written: bytes put into it, and a name spelled.
 #![tactic(auto)]
 
 ghost use Rattle.std.specs.Prelude.{◌≡◌, ◌∷◌, [], ◌+◌, ◌*◌, ◌<◌, ◌^◌, length, get_or};
 ghost use Rattle.tree.specs.Rules.{bytes};
 ghost use Rattle.listing.specs.Writing.{as_it_is, spell_byte, name_text};
-ghost use Rattle.listing_spell.specs.Puts.{Puts};
+ghost use Rattle.listing_spell.specs.Puts.{Wrote};
 
-// One byte.
-fn put(out: &mut [u8], at: usize, b: u8) -> usize
-    requires { at + 1 < 2 ^ 64 }
-    ensures { Puts out.old at (b ∷ []) 1 result out.new }
-{
-    if at < out.len() {
-        out[at] = b;
-    }
-    at + 1
-}
-
-// Bytes as they are.
-pub fn put_all(out: &mut [u8], at: usize, s: &[u8]) -> usize
-    requires { at + length s.now < 2 ^ 64 }
-    ensures { Puts out.old at s.now (length s.now) result out.new }
-{
-    let mut p = at;
-    let mut k = 0;
-    while k < s.len() {
-        p = put(out, p, s[k]);
-        k += 1;
-    }
-    p
+// A text that is written into lent bytes: those that fit stand there, and all are counted.
+#[derive(Drop)]
+pub struct Text<'a> {
+    pub out: &'a mut [u8],
+    pub at: usize,
 }
 
 // Letters, digits, dot, underscore and hyphen stand for themselves.
@@ -44,53 +26,59 @@ fn as_it_is(b: u8) -> bool
     }
 }
 
-// A byte of a name, as it is or as a backslash and three octal digits.
-fn put_spelt(out: &mut [u8], at: usize, b: u8) -> usize
-    requires { at + 4 < 2 ^ 64 }
-    ensures { Puts out.old at (spell_byte b) 4 result out.new }
-{
-    if as_it_is(b) {
-        return put(out, at, b);
-    }
-    let escape = [92, 48 + b / 64, 48 + b / 8 % 8, 48 + b % 8];
-    put_all(out, at, &escape)
-}
-
-// The four bytes of a word, the highest first.
-fn bytes_of(x: u32) -> [u8; 4]
-    ensures { result ≡ bytes (x ∷ []) }
-{
-    [
-        (x / 16777216) as u8,
-        (x / 65536 % 256) as u8,
-        (x / 256 % 256) as u8,
-        (x % 256) as u8,
-    ]
-}
-
 // Byte k of the words s.
 pub fn byte_at(s: &[u32], k: usize) -> u8
     requires { k < 4 * length s.now }
     ensures { result ≡ get_or (bytes s.now) k 0 }
 {
-    let b = bytes_of(s[k / 4]);
-    b[k % 4]
+    s[k / 4].to_be_bytes()[k % 4]
 }
 
-// A name: its bytes up to the first zero.
-pub fn put_name(out: &mut [u8], at: usize, name: &[u32]) -> usize
-    requires { (length name.now ≡ 8) × (at + 128 < 2 ^ 64) }
-    ensures { Puts out.old at (name_text name.now) 128 result out.new }
-{
-    let mut p = at;
-    let mut k = 0;
-    while k < 32 {
-        let b = byte_at(name, k);
-        if b == 0 {
-            return p;
+impl Text<'_> {
+    // One byte.
+    fn put(&mut self, b: u8)
+        requires { self.old.at + 1 < 2 ^ 64 }
+        ensures { Wrote self.old (b ∷ []) 1 self.new }
+    {
+        if self.at < self.out.len() {
+            self.out[self.at] = b;
         }
-        p = put_spelt(out, p, b);
-        k += 1;
+        self.at += 1;
     }
-    p
+
+    // Bytes as they are.
+    pub fn put_all(&mut self, s: &[u8])
+        requires { self.old.at + length s.now < 2 ^ 64 }
+        ensures { Wrote self.old s.now (length s.now) self.new }
+    {
+        for &b in s {
+            self.put(b);
+        }
+    }
+
+    // A byte of a name, as it is or as a backslash and three octal digits.
+    fn put_spelt(&mut self, b: u8)
+        requires { self.old.at + 4 < 2 ^ 64 }
+        ensures { Wrote self.old (spell_byte b) 4 self.new }
+    {
+        if as_it_is(b) {
+            return self.put(b);
+        }
+        let escape = [92, 48 + b / 64, 48 + b / 8 % 8, 48 + b % 8];
+        self.put_all(&escape);
+    }
+
+    // A name: its bytes up to the first zero.
+    pub fn put_name(&mut self, name: &[u32])
+        requires { (length name.now ≡ 8) × (self.old.at + 128 < 2 ^ 64) }
+        ensures { Wrote self.old (name_text name.now) 128 self.new }
+    {
+        for k in 0..32 {
+            let b = byte_at(name, k);
+            if b == 0 {
+                return;
+            }
+            self.put_spelt(b);
+        }
+    }
 }

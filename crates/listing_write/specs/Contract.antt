@@ -1,11 +1,9 @@
 -- What writing a table promises: the answer, and what the lent text holds afterwards, whatever is lent.
-use Rattle.std.specs.Prelude.{◌≡◌, List, [], ◌∷◌, Bool, cond, ◌&&◌, leb, length, ℕ}
+use Rattle.std.specs.Prelude.{◌≡◌, List, [], ◌∷◌, Bool, cond, ◌&&◌, leb, length, ℕ, Ok, Err}
 use Rattle.tree.specs.declared.Profile.{Profile}
 use Rattle.table_row.specs.Buffer.{over}
 use Rattle.table_row.specs.Tree.{tree_of}
-use Rattle.table_rules.specs.declared.Answer.{Answer}
-use Rattle.table_rules.specs.declared.Answer.TheVariants.{Accepted, Refused}
-use Rattle.table_rules.specs.Answer.{number_of, side_of, place_of, is_accepted, Says}
+use Rattle.table_rules.specs.Answer.{number_of, side_of, place_of, is_accepted, Says, Answer, refusal}
 use Rattle.table_rules.specs.Faults.{first_refusal}
 use Rattle.table_rules.specs.Contract.{check_due}
 use Rattle.listing.specs.Writing.{text_of}
@@ -16,7 +14,7 @@ fits n room = leb n 65536 && leb n room
 
 -- number 3 for the text s, with side 1; else the bytes written
 abbrev pub text_due : List ℕ → ℕ → Answer
-text_due s room = cond (fits (length s) room) (Accepted (length s)) (Refused 3 1 0)
+text_due s room = cond (fits (length s) room) (Ok (length s)) (Err (refusal 3 1 0))
 
 -- the answer that is due to a table and the bytes lent for its text: 1, 2 or 16 for the table, then 3, each with side 1
 unfoldable pub answer_due : Profile → List ℕ → ℕ → Answer

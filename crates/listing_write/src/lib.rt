@@ -8,44 +8,36 @@ ghost use Rattle.table_rules.specs.Keyed.{Passes};
 ghost use Rattle.listing.specs.Writing.{text_of};
 ghost use Rattle.listing_write.specs.Contract.{fits, text_due, Written, WriteContract};
 
+use table_rules::{Answer, Refusal};
+use tree::Profile;
+
 // Whether n bytes are no more than a text may have, nor than are lent.
 fn has_room(n: usize, room: usize) -> bool
     ensures { result ≡ fits n room }
 {
-    if 65536 < n {
-        return false;
-    }
-    n <= room
+    n <= 65536 && n <= room
 }
 
 // Writes a table that keeps the rules: number 3, or the bytes written. An empty part tells the text's length first.
-fn write_fine(table: &[u32], text: &mut [u8]) -> table_rules::Answer
+fn write_fine(table: &[u32], text: &mut [u8]) -> Answer
     requires { (p : Profile) × Passes p table.now }
     ensures { Written (text_due (text_of (tree_of table.now)) (length text.old)) (text_of (tree_of table.now)) text.old result text.new }
 {
     let n = listing_rows::put_listing(&mut text[..0], table);
     if has_room(n, text.len()) {
-        let place = listing_rows::put_listing(text, table);
-        return table_rules::Answer::Accepted { place };
+        return Ok(listing_rows::put_listing(text, table));
     }
-    table_rules::Answer::Refused {
+    Err(Refusal {
         number: 3,
         side: 1,
         place: 0,
-    }
+    })
 }
 
 // Writes a table's listing into the lent bytes: numbers 1, 2 and 16, then 3, all with side 1; the bytes written.
-pub fn write(profile: tree::Profile, table: &[u32], text: &mut [u8]) -> table_rules::Answer
+pub fn write(profile: Profile, table: &[u32], text: &mut [u8]) -> Answer
     ensures { WriteContract profile table.now text.old result text.new }
 {
-    let due = table_answers::check_table(profile, table);
-    match due {
-        table_rules::Answer::Accepted { place: _ } => write_fine(table, text),
-        table_rules::Answer::Refused {
-            number: _,
-            side: _,
-            place: _,
-        } => due,
-    }
+    table_answers::check_table(profile, table)?;
+    write_fine(table, text)
 }

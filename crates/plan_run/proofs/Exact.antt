@@ -1,5 +1,5 @@
 -- Where every byte counts, a run is the one of the trees as they are named: no keys, and no number 16.
-use Rattle.std.proofs.Common.{Ok, Err}
+use Rattle.std.proofs.Common.{Ok, Err, Option, Some, None}
 use mathlib.Core.Path.{◌≡◌, refl}
 use mathlib.Core.List.{List, [], ◌∷◌, ◌++◌}
 use mathlib.Core.Bool.{cond}
@@ -11,8 +11,8 @@ use Rattle.settle.specs.Results.{Outcome, outcome}
 use Rattle.settle.proofs.Spelled.{left-exact, right-exact, archive-exact}
 use Rattle.table_row.specs.Buffer.{over}
 use Rattle.table_row.specs.Tree.{table, tree_of}
-use Rattle.table_rules.specs.declared.Checked.{Checked}
-use Rattle.table_rules.specs.declared.Checked.TheVariants.{Fine, BadLength, BadRow}
+use Rattle.table_rules.specs.declared.Fault.{Fault}
+use Rattle.table_rules.specs.declared.Fault.TheVariants.{BadLength, BadRow}
 use Rattle.table_rules.specs.Answer.{is_accepted, Answer}
 use Rattle.table_rules.specs.Refusal.{refusal_of}
 use Rattle.table_rules.specs.Faults.{first_refusal}
@@ -49,11 +49,11 @@ run_plain o l r b = record {
 }
 
 -- the last check's answer may stand last
-last-check : (xs : List Answer) (c : Checked) (side : ℕ) → first_refusal (xs ++ (refusal_of c side ∷ [])) (Ok 0) ≡ first_refusal xs (refusal_of c side)
+last-check : (xs : List Answer) (c : Option Fault) (side : ℕ) → first_refusal (xs ++ (refusal_of c side ∷ [])) (Ok 0) ≡ first_refusal xs (refusal_of c side)
 unfolding first_refusal
-last-check [] Fine side = refl
-last-check [] BadLength side = refl
-last-check [] (BadRow i) side = refl
+last-check [] None side = refl
+last-check [] (Some BadLength) side = refl
+last-check [] (Some (BadRow i)) side = refl
 last-check (Ok p ∷ xs) c side = last-check xs c side
 last-check (Err r ∷ xs) c side = refl
 

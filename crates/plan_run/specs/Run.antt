@@ -1,6 +1,6 @@
 -- A reconciliation of three tables, in a profile, with the buffers lent to it: the answer that is due, each buffer and the
 -- tally afterwards.
-use Rattle.std.specs.Prelude.{◌≡◌, List, [], ◌∷◌, cond, leb, length, ℕ, suc, ◌/◌}
+use Rattle.std.specs.Prelude.{◌≡◌, List, [], ◌∷◌, cond, leb, length, ℕ, suc, ◌/◌, Option}
 use Rattle.tree.specs.Forest.{size}
 use Rattle.tree.specs.declared.Profile.{Profile}
 use Rattle.tree.specs.Key.{fold}
@@ -9,7 +9,6 @@ use Rattle.settle.specs.Spelled.{outcome_in}
 use Rattle.table_row.specs.Buffer.{over}
 use Rattle.table_row.specs.Tree.{table, tree_of}
 use Rattle.table_rules.specs.Answer.{is_accepted, Answer}
-use Rattle.table_rules.specs.declared.Checked.{Checked}
 use Rattle.table_rules.specs.Keyed.{checked_in, twins}
 use Rattle.table_rules.specs.Refusal.{refusal_of, twins_due}
 use Rattle.table_rules.specs.Faults.{first_refusal, unless, room_rule}
@@ -39,7 +38,7 @@ abbrev pub counts_of : Outcome → Counts
 counts_of u = record { archive = suc (size u.archive); left = suc (size u.left); right = suc (size u.right); list = length u.lines }
 
 -- number 16 of archive, left and right
-unfoldable pub twins_of : Checked → Checked → Checked → Answer
+unfoldable pub twins_of : Option ℕ → Option ℕ → Option ℕ → Answer
 twins_of o l r = first_refusal (twins_due o 1 ∷ twins_due l 2 ∷ []) (twins_due r 3)
 
 -- the tables' faults: 1 and 2 of archive, left and right, then 16 of each

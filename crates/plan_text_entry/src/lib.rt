@@ -2,40 +2,33 @@
 #![tactic(auto)]
 
 ghost use Rattle.std.specs.Prelude.{◌+◌, ◌*◌, ◌≤◌, ◌<◌, ◌^◌, length, drop};
-ghost use Rattle.listing_spell.specs.Puts.{Puts};
+ghost use Rattle.listing_spell.specs.Puts.{Wrote};
 ghost use Rattle.plan_text.specs.Text.{mark};
 ghost use Rattle.plan_text.specs.Words.{entry_text};
 
+use listing_spell::Text;
+
 // The mark of a kind.
-fn put_mark(out: &mut [u8], at: usize, kind: u32) -> usize
-    requires { at + 1 < 2 ^ 64 }
-    ensures { Puts out.old at (mark kind) 1 result out.new }
+fn put_mark(text: &mut Text, kind: u32)
+    requires { text.old.at + 1 < 2 ^ 64 }
+    ensures { Wrote text.old (mark kind) 1 text.new }
 {
-    if kind == 1 {
-        return listing_spell::put_all(out, at, b"<");
+    match kind {
+        1 => text.put_all(b"<"),
+        2 => text.put_all(b">"),
+        _ => text.put_all(b"!"),
     }
-    if kind == 2 {
-        return listing_spell::put_all(out, at, b">");
-    }
-    listing_spell::put_all(out, at, b"!")
 }
 
 // The line of entry k of a list.
-pub fn put_entry(
-    out: &mut [u8],
-    at: usize,
-    list: &[u32],
-    k: usize,
-    left: &[u32],
-    right: &[u32],
-) -> usize
-    requires { (3 * k + 3 ≤ length list.now) × (length left.now ≤ 81920) × (length right.now ≤ 81920) × (at + 2 ^ 21 < 2 ^ 64) }
-    ensures { Puts out.old at (entry_text left.now right.now (drop (3 * k) list.now)) (2 ^ 21) result out.new }
+pub fn put_entry(text: &mut Text, list: &[u32], k: usize, left: &[u32], right: &[u32])
+    requires { (3 * k + 3 ≤ length list.now) × (length left.now ≤ 81920) × (length right.now ≤ 81920) × (text.old.at + 2 ^ 21 < 2 ^ 64) }
+    ensures { Wrote text.old (entry_text left.now right.now (drop (3 * k) list.now)) (2 ^ 21) text.new }
 {
-    let p = put_mark(out, at, list[3 * k]);
-    let q = listing_spell::put_all(out, p, b" ");
-    let i = table_row::wide(list[3 * k + 1]);
-    let j = table_row::wide(list[3 * k + 2]);
-    let s = plan_text_path::put_side(out, q, left, i, right, j);
-    listing_spell::put_all(out, s, b"\n")
+    put_mark(text, list[3 * k]);
+    text.put_all(b" ");
+    let i = list[3 * k + 1] as usize;
+    let j = list[3 * k + 2] as usize;
+    plan_text_path::put_side(text, left, i, right, j);
+    text.put_all(b"\n");
 }

@@ -2,36 +2,35 @@
 #![tactic(auto)]
 
 ghost use Rattle.std.specs.Prelude.{◌+◌, ◌*◌, ◌≤◌, ◌<◌, ◌/◌, ◌^◌, length};
-ghost use Rattle.listing_spell.specs.Puts.{Puts};
+ghost use Rattle.listing_spell.specs.Puts.{Wrote};
 ghost use Rattle.table_route.specs.Route.{path_of};
 ghost use Rattle.plan_text.specs.Text.{path_text};
 ghost use Rattle.plan_text.specs.Words.{side_text};
 
+use listing_spell::Text;
+
 // The path of row i: that of the folder in which it stands, and its name.
-fn put_path(out: &mut [u8], at: usize, t: &[u32], i: usize) -> usize
-    requires { (20 * i + 20 ≤ length t.now) × (at + 129 * i + 1 < 2 ^ 64) }
-    ensures { Puts out.old at (path_text (path_of t.now i)) (129 * i + 1) result out.new }
+fn put_path(text: &mut Text, t: &[u32], i: usize)
+    requires { (20 * i + 20 ≤ length t.now) × (text.old.at + 129 * i + 1 < 2 ^ 64) }
+    ensures { Wrote text.old (path_text (path_of t.now i)) (129 * i + 1) text.new }
 {
     if i == 0 {
-        return listing_spell::put_all(out, at, b".");
+        return text.put_all(b".");
     }
-    let p = put_path(out, at, t, table_route::folder_of(t, i));
-    let q = listing_spell::put_all(out, p, b"/");
-    let from = 20 * i + 2;
-    let to = from + 8;
-    listing_spell::put_name(out, q, &t[from..to])
+    put_path(text, t, table_route::folder_of(t, i));
+    text.put_all(b"/");
+    text.put_name(table_row::name(t, i));
 }
 
 // The path of row i of the left table, or of row j of the right one where the left has no such row.
-pub fn put_side(out: &mut [u8], at: usize, left: &[u32], i: usize, right: &[u32], j: usize) -> usize
-    requires { (length left.now ≤ 81920) × (length right.now ≤ 81920) × (at + 2 ^ 20 < 2 ^ 64) }
-    ensures { Puts out.old at (side_text left.now right.now i j) (2 ^ 20) result out.new }
+pub fn put_side(text: &mut Text, left: &[u32], i: usize, right: &[u32], j: usize)
+    requires { (length left.now ≤ 81920) × (length right.now ≤ 81920) × (text.old.at + 2 ^ 20 < 2 ^ 64) }
+    ensures { Wrote text.old (side_text left.now right.now i j) (2 ^ 20) text.new }
 {
     if i < left.len() / 20 {
-        return put_path(out, at, left, i);
+        return put_path(text, left, i);
     }
     if j < right.len() / 20 {
-        return put_path(out, at, right, j);
+        put_path(text, right, j);
     }
-    at
 }

@@ -2,59 +2,41 @@
 #![tactic(auto)]
 
 ghost use Rattle.std.specs.Prelude.{◌+◌, ◌≤◌, ◌<◌, ◌/◌, ◌^◌, length};
-ghost use Rattle.listing_spell.specs.Puts.{Puts};
-ghost use Rattle.plan_text.specs.Text.{count_text, counts_text};
+ghost use Rattle.listing_spell.specs.Puts.{Wrote};
+ghost use Rattle.plan_text.specs.Text.{counts_text};
 ghost use Rattle.plan_text.specs.Words.{entries_text, plan_bytes};
 
-// The lines of all entries.
-fn put_entries(out: &mut [u8], at: usize, list: &[u32], left: &[u32], right: &[u32]) -> usize
-    requires { (length list.now ≤ 36864) × (length left.now ≤ 81920) × (length right.now ≤ 81920) × (at + 2 ^ 35 < 2 ^ 64) }
-    ensures { Puts out.old at (entries_text left.now right.now (length list.now / 3) list.now) (2 ^ 35) result out.new }
-{
-    let n = list.len() / 3;
-    let mut p = at;
-    let mut k = 0;
-    while k < n {
-        p = plan_text_entry::put_entry(out, p, list, k, left, right);
-        k += 1;
-    }
-    p
-}
+use listing_spell::Text;
 
-// A count in decimal.
-fn put_count(out: &mut [u8], at: usize, n: u32) -> usize
-    requires { at + 20 < 2 ^ 64 }
-    ensures { Puts out.old at (count_text n) 20 result out.new }
+// The lines of all entries.
+fn put_entries(text: &mut Text, list: &[u32], left: &[u32], right: &[u32])
+    requires { (length list.now ≤ 36864) × (length left.now ≤ 81920) × (length right.now ≤ 81920) × (text.old.at + 2 ^ 35 < 2 ^ 64) }
+    ensures { Wrote text.old (entries_text left.now right.now (length list.now / 3) list.now) (2 ^ 35) text.new }
 {
-    listing_numbers::put_decimal(out, at, table_row::wide(n) as u64)
+    for k in 0..list.len() / 3 {
+        plan_text_entry::put_entry(text, list, k, left, right);
+    }
 }
 
 // The line of the counts.
-fn put_counts(out: &mut [u8], at: usize, t: plan_tally::Tally) -> usize
-    requires { at + 65 < 2 ^ 64 }
-    ensures { Puts out.old at (counts_text t) 65 result out.new }
+fn put_counts(text: &mut Text, t: plan_tally::Tally)
+    requires { text.old.at + 65 < 2 ^ 64 }
+    ensures { Wrote text.old (counts_text t) 65 text.new }
 {
-    let a = listing_spell::put_all(out, at, b"= ");
-    let b = put_count(out, a, t.left);
-    let c = listing_spell::put_all(out, b, b" ");
-    let d = put_count(out, c, t.right);
-    let e = listing_spell::put_all(out, d, b" ");
-    let f = put_count(out, e, t.clash);
-    listing_spell::put_all(out, f, b"\n")
+    text.put_all(b"= ");
+    listing_numbers::put_decimal(text, u64::from(t.left));
+    text.put_all(b" ");
+    listing_numbers::put_decimal(text, u64::from(t.right));
+    text.put_all(b" ");
+    listing_numbers::put_decimal(text, u64::from(t.clash));
+    text.put_all(b"\n");
 }
 
 // The text of a list of the entries of two tables, and of its tally. A byte past the lent bytes is only counted.
-pub fn put_plan(
-    out: &mut [u8],
-    at: usize,
-    list: &[u32],
-    left: &[u32],
-    right: &[u32],
-    t: plan_tally::Tally,
-) -> usize
-    requires { (length list.now ≤ 36864) × (length left.now ≤ 81920) × (length right.now ≤ 81920) × (at + 2 ^ 36 < 2 ^ 64) }
-    ensures { Puts out.old at (plan_bytes left.now right.now list.now t) (2 ^ 36) result out.new }
+pub fn put_plan(text: &mut Text, list: &[u32], left: &[u32], right: &[u32], t: plan_tally::Tally)
+    requires { (length list.now ≤ 36864) × (length left.now ≤ 81920) × (length right.now ≤ 81920) × (text.old.at + 2 ^ 36 < 2 ^ 64) }
+    ensures { Wrote text.old (plan_bytes left.now right.now list.now t) (2 ^ 36) text.new }
 {
-    let p = put_entries(out, at, list, left, right);
-    put_counts(out, p, t)
+    put_entries(text, list, left, right);
+    put_counts(text, t);
 }

@@ -1,15 +1,27 @@
 // What is printed for three tables: their plan.
 #![tactic(auto)]
 
-ghost use Rattle.std.specs.Prelude.{◌≡◌};
+ghost use Rattle.std.specs.Prelude.{◌≡◌, ◌≤◌, ◌^◌, length};
 ghost use Rattle.table_row.specs.Tree.{tree_of};
 ghost use Rattle.listing_spell.specs.Puts.{Puts};
 ghost use Rattle.plan_run.specs.Answer.{entries_of};
+ghost use Rattle.plan_text.specs.Words.{plan_bytes};
 ghost use Rattle.plan_text.specs.Spelled.{run_text};
 ghost use Rattle.printout_text.specs.Tables.{IsTable};
 
+use listing_spell::Text;
 use plan_run::Reconciled;
 use tree::Profile;
+
+// A list and its tally as text in lent bytes, from the first one on.
+fn put_plan(out: &mut [u8], list: &[u32], l: &[u32], r: &[u32], tally: plan_tally::Tally) -> usize
+    requires { (length list.now ≤ 36864) × (length l.now ≤ 81920) × (length r.now ≤ 81920) }
+    ensures { Puts out.old 0 (plan_bytes l.now r.now list.now tally) (2 ^ 36) result out.new }
+{
+    let mut text = Text { out, at: 0 };
+    plan_text_put::put_plan(&mut text, list, l, r, tally);
+    text.at
+}
 
 // The entries of the list that a run made; none where it is refused.
 fn entries(answer: Reconciled) -> usize
@@ -47,5 +59,5 @@ pub fn put_run(profile: Profile, out: &mut [u8], o: &[u32], l: &[u32], r: &[u32]
         none,
     );
     let end = 3 * entries(ran.answer);
-    plan_text_put::put_plan(out, 0, &list[..end], l, r, ran.tally)
+    put_plan(out, &list[..end], l, r, ran.tally)
 }

@@ -1,4 +1,5 @@
 -- A file's text: too long, or as it is read into 128 rows.
+use Rattle.std.proofs.Common.{Ok, Err}
 use mathlib.Core.Path.{◌≡◌, refl, sym, ap, ◌∙◌}
 use mathlib.Core.List.{List}
 use mathlib.Core.Bool.{false≢true}
@@ -12,9 +13,8 @@ use Rattle.tree.specs.declared.Profile.{Profile}
 use Rattle.table_row.specs.Buffer.{over}
 use Rattle.table_row.specs.Tree.{table, tree_of}
 use Rattle.table_row.proofs.Tree.{length-table, tree-table}
-use Rattle.table_rules.specs.declared.Answer.{Answer}
-use Rattle.table_rules.specs.declared.Answer.TheVariants.{Accepted, Refused}
-use Rattle.table_rules.specs.Answer.{is_accepted, number_of, place_of}
+use Rattle.table_rules.specs.declared.Refusal.{Refusal}
+use Rattle.table_rules.specs.Answer.{is_accepted, number_of, place_of, Answer, refusal}
 use Rattle.listing.specs.Bytes.{text}
 use Rattle.listing.specs.Reading.{Outcome, Outcome.refused, Outcome.accepted, reading}
 use Rattle.listing.proofs.Accepted.{accepted-fits}
@@ -24,7 +24,7 @@ use Rattle.listing_read_lines.specs.Contract.{ReadContract, table_after}
 use Rattle.printout_text.specs.Printed.{file_read, printed, refused_text}
 use Rattle.printout_text.specs.Tables.{IsTable, Left, Loaded}
 
-pub too_long : (p : Profile) (t after : List ℕ) → 16384 < length t → Loaded p (file_read p t) (Refused 6 0 0) after
+pub too_long : (p : Profile) (t after : List ℕ) → 16384 < length t → Loaded p (file_read p t) (Err (refusal 6 0 0)) after
 unfolding file_read
 too_long p t after h =
     let e : file_read p t ≡ refused 6 0 = rw (lt-leb (length t) 16384 h) in
@@ -50,7 +50,7 @@ pub record Taken (p : Profile) (o : Outcome) (w : List ℕ) (rows : ℕ) : Type 
   pub table : IsTable p (take (20 * rows) w)
   pub same : tree_of (take (20 * rows) w) ≡ tree
 
-pub taken : (p : Profile) (o : Outcome) (a : Answer) (w : List ℕ) (rows : ℕ) → Loaded p o a w → a ≡ Accepted rows → Taken p o w rows
+pub taken : (p : Profile) (o : Outcome) (a : Answer) (w : List ℕ) (rows : ℕ) → Loaded p o a w → a ≡ Ok rows → Taken p o w rows
 taken p (refused n place) a w rows l e = absurd (false≢true (sym l.kind ∙ ap is_accepted e))
 taken p (accepted f) a w rows l e =
     let r : suc (size f) ≡ rows = sym l.says.place-due ∙ ap place_of e in
@@ -64,12 +64,12 @@ taken p (accepted f) a w rows l e =
       same = rw t (tree-table f l.left.0.within);
     }
 
-pub not_taken : (p : Profile) (o : Outcome) (a : Answer) (w : List ℕ) (n s place : ℕ) → Loaded p o a w → a ≡ Refused n s place → o ≡ refused n place
-not_taken p (refused m line) a w n s place l e =
-    let x : n ≡ m = sym (ap number_of e) ∙ l.says.number-due in
-    let y : place ≡ line = sym (ap place_of e) ∙ l.says.place-due in
+pub not_taken : (p : Profile) (o : Outcome) (a : Answer) (w : List ℕ) (r : Refusal) → Loaded p o a w → a ≡ Err r → o ≡ refused r.number r.place
+not_taken p (refused m line) a w r l e =
+    let x : r.number ≡ m = sym (ap number_of e) ∙ l.says.number-due in
+    let y : r.place ≡ line = sym (ap place_of e) ∙ l.says.place-due in
     cc
-not_taken p (accepted f) a w n s place l e = absurd (false≢true (sym (ap is_accepted e) ∙ l.kind))
+not_taken p (accepted f) a w r l e = absurd (false≢true (sym (ap is_accepted e) ∙ l.kind))
 
 -- its rows are a part of the 2,560 words
 pub taken-part : {p : Profile} {o : Outcome} {w : List ℕ} {rows n : ℕ} → Taken p o w rows → length w ≡ n → n ≡ 2560 → (20 * rows ≤ length w) × (20 * rows ≡ length (take (20 * rows) w))

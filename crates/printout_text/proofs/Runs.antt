@@ -1,4 +1,5 @@
 -- Three tables of at most 128 rows: 382 rows and as many entries hold every result, and the list's text is short.
+use Rattle.std.proofs.Common.{Ok}
 use mathlib.Core.Path.{◌≡◌, ◌∙◌}
 use mathlib.Core.List.{List}
 use native.Mathlib.Omega.{arith}
@@ -16,7 +17,6 @@ use Rattle.settle.specs.Spelled.{new_archive_in, new_left_in, new_right_in}
 use Rattle.table_row.specs.Buffer.{over}
 use Rattle.table_row.specs.Tree.{tree_of}
 use Rattle.table_row.proofs.Tree.{length-table, tree-table}
-use Rattle.table_rules.specs.declared.Answer.TheVariants.{Accepted}
 use Rattle.table_rules.specs.Keyed.{Passes}
 use Rattle.table_rules.proofs.Passed.{table-passes}
 use Rattle.listing_spell.specs.Puts.{Puts}
@@ -125,7 +125,7 @@ module _ (p : Profile) (o l r : List ℕ) (O : IsTable p o) (L : IsTable p l) (R
 
   -- the run is accepted
   module _ (b a : Lent) (A : Ample b) (answer : Reconciled) (C : ReconcileContract p o l r b a answer) where
-    due : run_due p o l r b ≡ Accepted 0
+    due : run_due p o l r b ≡ Ok 0
     due = accepted p o l r b (record { archive-passes = passes p o O; left-passes = passes p l L; right-passes = passes p r R; room = room b A })
 
     pub entries : entries_of answer ≡ length (given p o l r).lines

@@ -4,8 +4,7 @@ use Rattle.tree.specs.Forest.{Forest, size}
 use Rattle.tree.specs.declared.Profile.{Profile}
 use Rattle.tree.specs.Key.{FormedIn}
 use Rattle.table_row.specs.Tree.{table}
-use Rattle.table_rules.specs.declared.Answer.{Answer}
-use Rattle.table_rules.specs.Answer.{is_accepted}
+use Rattle.table_rules.specs.Answer.{is_accepted, Answer}
 use Rattle.listing.specs.Reading.{Outcome, Outcome.accepted, Outcome.refused}
 use Rattle.listing_read_lines.specs.Contract.{Answers, is_taken}
 

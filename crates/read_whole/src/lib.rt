@@ -12,6 +12,7 @@ pub fn fill(from: &mut impl Read, into: &mut [u8]) -> io::Result<usize>
     ensures { ReadsAtMost result into.new }
 {
     let mut done = 0;
+    // The step is as long as what was read.
     while done < into.len() {
         let n = from.read(&mut into[done..])?;
         if n == 0 {

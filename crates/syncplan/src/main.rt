@@ -3,11 +3,10 @@
 #![tactic(auto)]
 
 use std::io;
-use syncplan_files::Wish;
 
 // The plan of the three listings, or how to ask for it.
 fn main(rt: HostRuntime) -> io::Result<()> {
-    let Wish::Plan(profile) = syncplan_files::asked(&rt) else {
+    let Some(profile) = syncplan_files::asked(&rt) else {
         return eprintln!(rt; "usage: syncplan [--ignore-case]");
     };
     let mut archive = [0u8; 16385];

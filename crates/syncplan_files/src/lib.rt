@@ -26,10 +26,7 @@ pub fn load(rt: &impl Files, path: &[u8], into: &mut [u8]) -> usize
     ensures bound { result ≤ length into.new }
     ensures prefix { result ≡ length (take result into.new) }
 {
-    match read(rt, path, into) {
-        Ok(n) => n,
-        Err(_) => into.len(),
-    }
+    read(rt, path, into).unwrap_or(into.len())
 }
 
 // Room for the plan of any three files.
@@ -39,28 +36,22 @@ pub fn page() -> [u8; 1048576]
     [0; 1048576]
 }
 
-// What the program is asked for: a plan, or something that it doesn't know.
-#[derive(Clone, Copy)]
-pub enum Wish {
-    Plan(Profile),
-    Other,
-}
-
 // Whether argument k is there.
 fn is_given(rt: &impl Env, k: usize) -> bool {
     let mut word = [0u8; 16];
     !matches!(rt.arg(k, &mut word), Err(FillError::NotPresent))
 }
 
-// The argument, where there is one.
-pub fn asked(rt: &impl Env) -> Wish {
+// The profile in which a plan is asked for, by the argument where there is one; none for arguments that the program doesn't
+// know.
+pub fn asked(rt: &impl Env) -> Option<Profile> {
     if !is_given(rt, 1) {
-        return Wish::Plan(Profile::Exact);
+        return Some(Profile::Exact);
     }
     let mut word = [0u8; 16];
     let e = rt.arg(1, &mut word).unwrap_or(0);
-    if !is_given(rt, 2) && listing_words::same_bytes(&word[..e], b"--ignore-case") {
-        return Wish::Plan(Profile::Folded);
+    if !is_given(rt, 2) && &word[..e] == b"--ignore-case".as_slice() {
+        return Some(Profile::Folded);
     }
-    Wish::Other
+    None
 }

@@ -6,22 +6,21 @@ ghost use Rattle.table_rules.specs.Refusal.{refusal_of, twins_due};
 ghost use Rattle.table_rules.specs.Faults.{first_refusal, unless, room_rule};
 ghost use Rattle.table_rules.specs.Contract.{CheckContract};
 
-use table_rules::{Answer, Checked, Refusal, Seen};
+use table_rules::{Answer, Fault, Refusal, Seen};
 use tree::Profile;
 
 // The answer to a table of a side: numbers 1 and 2.
 pub fn refusal(seen: Seen, side: u32) -> Answer
     ensures { result ≡ refusal_of seen.rows side }
 {
-    let rows = seen.rows;
-    match rows {
-        Checked::Fine => Ok(0),
-        Checked::BadLength => Err(Refusal {
+    match seen.rows {
+        None => Ok(0),
+        Some(Fault::BadLength) => Err(Refusal {
             number: 1,
             side,
             place: 0,
         }),
-        Checked::BadRow(place) => Err(Refusal {
+        Some(Fault::BadRow(place)) => Err(Refusal {
             number: 2,
             side,
             place,
@@ -33,11 +32,9 @@ pub fn refusal(seen: Seen, side: u32) -> Answer
 pub fn twins_refusal(seen: Seen, side: u32) -> Answer
     ensures { result ≡ twins_due seen.twins side }
 {
-    let twins = seen.twins;
-    match twins {
-        Checked::Fine => Ok(0),
-        Checked::BadLength => Ok(0),
-        Checked::BadRow(place) => Err(Refusal {
+    match seen.twins {
+        None => Ok(0),
+        Some(place) => Err(Refusal {
             number: 16,
             side,
             place,

@@ -1,4 +1,5 @@
 -- The last row of each depth: what is remembered after row 0, and after one row more.
+use Rattle.std.proofs.Common.{Some}
 use mathlib.Core.Path.{◌≡◌, refl, ◌∙◌}
 use mathlib.Core.List.{List, [], ◌∷◌}
 use mathlib.Core.Bool.{Bool, true, false, cond, ◌&&◌, false≢true}
@@ -25,7 +26,6 @@ use Rattle.std.specs.declared.cmp.Ordering.TheVariants.{Less}
 use Rattle.table_row.proofs.Fits.{zeros-all}
 use Rattle.table_rules.specs.Rules.{deepest, depth_rule, kind_rule, before}
 use Rattle.table_rules.specs.Keyed.{sibling, ok_row_in, no_twin, lowest}
-use Rattle.table_rules.specs.declared.Checked.TheVariants.{BadRow}
 use Rattle.table_rules.proofs.Rows.{Passed, passed_none, passed-next, lowest-row}
 use Rattle.table_check.specs.Last.{Lasts, lasts_after}
 
@@ -155,7 +155,7 @@ module _ (p : Profile) (w : List ℕ) where
   root-passes h z = (passed-next (ok_row_in p) w 0 (omega arith) z (passed_none (ok_row_in p) w), passed-next (no_twin p) w 0 (omega arith) refl (passed_none (no_twin p) w))
 
   -- and any other is bad
-  pub root-fails : 20 ≤ length w → zeros (row_at w 0) ≡ false → lowest (ok_row_in p) w ≡ BadRow 0
+  pub root-fails : 20 ≤ length w → zeros (row_at w 0) ≡ false → lowest (ok_row_in p) w ≡ Some 0
   unfolding ok_row_in before
   root-fails h z = lowest-row (ok_row_in p) w 0 (omega arith) z (passed_none (ok_row_in p) w)
 

@@ -5,11 +5,11 @@ ghost use Rattle.std.specs.Prelude.{◌≡◌, true, ◌+◌, ◌-◌, ◌*◌, 
 ghost use Rattle.tree.specs.Rules.{zeros};
 ghost use Rattle.table_row.specs.Table.{row_at};
 ghost use Rattle.table_rules.specs.Rules.{before, sized};
-ghost use Rattle.table_rules.specs.Seen.{fit_after, fit_of, or_row, SeesRows, Sees};
+ghost use Rattle.table_rules.specs.Seen.{fit_after, fit_of, SeesRows, Sees};
 ghost use Rattle.table_check.specs.Last.{Lasts, lasts_after};
 
 use std::cmp::Ordering;
-use table_rules::{Checked, Fit, Seen};
+use table_rules::{Fault, Fit, Seen};
 use tree::Profile;
 
 // How a row follows a sibling that stands so to it.
@@ -53,17 +53,6 @@ fn remember(last: &mut [usize; 18], d: usize, i: usize)
     last[d + 1] = 0;
 }
 
-// What was found, or row i where that is nothing.
-fn or_row(found: Checked, i: usize) -> Checked
-    ensures { result ≡ or_row found i }
-{
-    match found {
-        Checked::Fine => Checked::BadRow(i),
-        Checked::BadLength => found,
-        Checked::BadRow(_) => found,
-    }
-}
-
 // The lowest row that breaks the rules, and the lowest that has the key of the sibling before it, after a first row of zeros. For
 // each depth, last has the row that the next one of it comes after, or row 0, whose name is less than any, where there is none.
 fn check_entries(profile: Profile, t: &[u32]) -> Seen
@@ -72,19 +61,19 @@ fn check_entries(profile: Profile, t: &[u32]) -> Seen
 {
     let n = t.len() / 20;
     let mut last = [0usize; 18];
-    let mut twins = Checked::Fine;
+    let mut twins = None;
     for i in 1..n {
         match row_fit(profile, t, i, &last) {
             Fit::Good => {}
-            Fit::Twin => twins = or_row(twins, i),
+            Fit::Twin => twins = twins.or(Some(i)),
             Fit::Bad => {
-                let rows = Checked::BadRow(i);
+                let rows = Some(Fault::BadRow(i));
                 return Seen { rows, twins };
             }
         }
         remember(&mut last, table_row::wide(table_row::word(t, i, 0)), i);
     }
-    let rows = Checked::Fine;
+    let rows = None;
     Seen { rows, twins }
 }
 
@@ -97,8 +86,8 @@ fn check_rows(profile: Profile, t: &[u32]) -> Seen
         return check_entries(profile, t);
     }
     Seen {
-        rows: Checked::BadRow(0),
-        twins: Checked::Fine,
+        rows: Some(Fault::BadRow(0)),
+        twins: None,
     }
 }
 
@@ -124,7 +113,7 @@ pub fn check(profile: Profile, t: &[u32]) -> Seen
         return check_rows(profile, t);
     }
     Seen {
-        rows: Checked::BadLength,
-        twins: Checked::Fine,
+        rows: Some(Fault::BadLength),
+        twins: None,
     }
 }

@@ -70,7 +70,7 @@ pub fn carry_in(
     requires { Inputs profile target.now keys.now source.now span names depth }
     ensures { CarriedOut profile target.now source.now names depth res.old res.new result }
 {
-    let Some(f) = table_spans::parent_row(keys, names, depth) else {
+    let Some(f) = table_spans::parent_row(keys, &names[..depth - 1]) else {
         return Err(Refusal {
             number: 4,
             side: 0,

@@ -1,5 +1,5 @@
 -- The order of faults: an acceptance passes every check, and what passes every check is accepted.
-use Rattle.std.proofs.Common.{Ok, Err}
+use Rattle.std.proofs.Common.{Ok, Err, Option, Some, None}
 use mathlib.Core.Path.{◌≡◌, refl}
 use mathlib.Core.List.{List, [], ◌∷◌, ◌++◌}
 use mathlib.Core.Bool.{Bool, true, false, cond}
@@ -8,10 +8,10 @@ use Prim.Native.Nat.{ℕ, ◌/◌, ◌≤◌}
 use borrow.Author.Tests.{le-leb, leb-true}
 use Rattle.tree.proofs.Never.{never}
 use Rattle.tree.proofs.Same.{and-true}
-use Rattle.table_rules.specs.declared.Checked.{Checked}
-use Rattle.table_rules.specs.declared.Checked.TheVariants.{Fine, BadLength, BadRow}
+use Rattle.table_rules.specs.declared.Fault.{Fault}
+use Rattle.table_rules.specs.declared.Fault.TheVariants.{BadLength, BadRow}
 use Rattle.table_rules.specs.declared.Refusal.{Refusal}
-use Rattle.table_rules.specs.Answer.{is_accepted, Answer, refusal}
+use Rattle.table_rules.specs.Answer.{is_accepted, Answer}
 use Rattle.table_rules.specs.Refusal.{refusal_of}
 use Rattle.table_rules.specs.Faults.{first_refusal, unless, room_rule}
 
@@ -42,17 +42,17 @@ first-last [] last h = refl
 first-last (Ok p ∷ xs) last h = first-last xs last h
 first-last (Err r ∷ xs) last h = never (cc)
 
-pub refusal-fine : (c : Checked) (side : ℕ) → is_accepted (refusal_of c side) ≡ true → c ≡ Fine
-refusal-fine Fine side h = refl
-refusal-fine BadLength side h = never (cc)
-refusal-fine (BadRow i) side h = never (cc)
+pub refusal-fine : (c : Option Fault) (side : ℕ) → is_accepted (refusal_of c side) ≡ true → c ≡ None
+refusal-fine None side h = refl
+refusal-fine (Some BadLength) side h = never (cc)
+refusal-fine (Some (BadRow i)) side h = never (cc)
 
 -- what is asked after a table was checked counts only where nothing was wrong with it
-pub first_then : (c : Checked) (side : ℕ) {x y : Answer} → (c ≡ Fine → x ≡ y) → first_refusal (refusal_of c side ∷ []) x ≡ first_refusal (refusal_of c side ∷ []) y
+pub first_then : (c : Option Fault) (side : ℕ) {x y : Answer} → (c ≡ None → x ≡ y) → first_refusal (refusal_of c side ∷ []) x ≡ first_refusal (refusal_of c side ∷ []) y
 unfolding first_refusal
-first_then Fine side h = h refl
-first_then BadLength side h = refl
-first_then (BadRow i) side h = refl
+first_then None side h = h refl
+first_then (Some BadLength) side h = refl
+first_then (Some (BadRow i)) side h = refl
 
 pub unless-true : (b : Bool) (number side : ℕ) → is_accepted (unless b number side) ≡ true → b ≡ true
 unless-true true number side h = refl

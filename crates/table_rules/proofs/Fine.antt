@@ -1,4 +1,5 @@
 -- A table whose siblings ascend as they are named: what the check without keys finds, and that a well-formed tree's is one.
+use Rattle.std.proofs.Common.{Some, None, option_map}
 use mathlib.Core.Path.{◌≡◌, refl}
 use mathlib.Core.List.{List, []}
 use mathlib.Core.Bool.{Bool, true, false, cond, ◌&&◌}
@@ -14,7 +15,7 @@ use Rattle.table_row.specs.Tree.{table}
 use Rattle.tree.proofs.Same.{and-true}
 use Rattle.table_row.proofs.Table.{length-rows_n}
 use Rattle.table_row.proofs.Tree.{length-table, rows-table}
-use Rattle.table_rules.specs.declared.Checked.TheVariants.{Fine, BadLength, BadRow}
+use Rattle.table_rules.specs.declared.Fault.TheVariants.{BadLength, BadRow}
 use Rattle.table_rules.specs.Rules.{sized}
 use Rattle.table_rules.proofs.Plain.{lead, checked}
 use Rattle.table_rules.proofs.Rows.{sized-true}
@@ -28,11 +29,11 @@ pub record Sound (w : List ℕ) : Type 0 where
   pub most : length w / 20 ≤ 4096
   pub good : Good [] (rows w)
 
-pub fine-sound : (w : List ℕ) → checked w ≡ Fine → Sound w
+pub fine-sound : (w : List ℕ) → checked w ≡ None → Sound w
 unfolding checked sized
 fine-sound w = go (sized w) refl (ltb (lead [] (rows w)) (length w / 20)) refl
   where
-    go : (s : Bool) → sized w ≡ s → (l : Bool) → ltb (lead [] (rows w)) (length w / 20) ≡ l → cond s (cond l (BadRow (lead [] (rows w))) Fine) BadLength ≡ Fine → Sound w
+    go : (s : Bool) → sized w ≡ s → (l : Bool) → ltb (lead [] (rows w)) (length w / 20) ≡ l → cond s (option_map BadRow (cond l (Some (lead [] (rows w))) None)) (Some BadLength) ≡ None → Sound w
     go true e true f h = absurd (let z : ◌≡◌ {A = ℕ} 0 1 = cc in omega arith)
     go true e false f h =
         let a = and-true (eqb (length w % 20) 0 && leb 1 (length w / 20)) (leb (length w / 20) 4096) e in
@@ -45,12 +46,12 @@ fine-sound w = go (sized w) refl (ltb (lead [] (rows w)) (length w / 20)) refl
         }
     go false e l f h = absurd (let z : ◌≡◌ {A = ℕ} 0 1 = cc in omega arith)
 
-pub sound-fine : (w : List ℕ) → Sound w → checked w ≡ Fine
+pub sound-fine : (w : List ℕ) → Sound w → checked w ≡ None
 unfolding checked
 sound-fine w S = rw (sized-true w S.whole S.some S.most, good-lead [] (rows w) S.good, length-rows_n, le-ltb (length w / 20) (length w / 20) (omega arith))
 
 -- the table of a well-formed tree is fine
-pub table-fine : (f : Forest) → WellFormed f → suc (size f) ≤ 4096 → checked (table f) ≡ Fine
+pub table-fine : (f : Forest) → WellFormed f → suc (size f) ≤ 4096 → checked (table f) ≡ None
 table-fine f W h =
     let n = length-table f W.within in
     sound-fine (table f) (record { whole = omega arith; some = omega arith; most = omega arith; good = rw (rows-table f W.within) (table-good f W) })

@@ -1,5 +1,6 @@
 -- None of 1, 2 and 16 is due of a table exactly when neither 1 nor 2 is due, as names are, of its table of keys. What is proved
 -- of the rules is used there.
+use Rattle.std.proofs.Common.{Option, Some, None, option_map}
 use mathlib.Core.Path.{◌≡◌, refl, sym, ap, ◌∙◌}
 use mathlib.Core.List.{List, [], ◌∷◌, map}
 use mathlib.Core.Bool.{Bool, true, false, cond, ◌&&◌, not}
@@ -23,7 +24,7 @@ use Rattle.table_row.specs.Table.{Row, rows, depth, name}
 use Rattle.table_row.specs.Keyed.{keyed_row, keyed}
 use Rattle.table_row.proofs.Flat.{Whole, whole-rows}
 use Rattle.table_row.proofs.Keyed.{has_key, rows-keyed, length-keyed}
-use Rattle.table_rules.specs.declared.Checked.TheVariants.{Fine, BadLength}
+use Rattle.table_rules.specs.declared.Fault.TheVariants.{BadLength, BadRow}
 use Rattle.table_rules.specs.Rules.{depth_rule, kind_rule, sized}
 use Rattle.table_rules.proofs.Plain.{ascends, ok_row, checked}
 use Rattle.table_rules.specs.Keyed.{sibling, in_order, ok_row_in, is_same, no_twin, lowest, checked_in, twins, Passes}
@@ -53,17 +54,21 @@ no-twins (q ∷ ps) (r ∷ rs) g =
     (no-twin (sibling Exact (depth r) (name r) (q ∷ ps)) a.1, no-twins (r ∷ q ∷ ps) rs g.1)
 
 -- no twins are found exactly where no row has one
-twins-all : (p : Profile) (w : List ℕ) → AllBy (ok_row_in p) [] (rows w) → twins p w ≡ Fine → AllBy (no_twin p) [] (rows w)
+twins-all : (p : Profile) (w : List ℕ) → AllBy (ok_row_in p) [] (rows w) → twins p w ≡ None → AllBy (no_twin p) [] (rows w)
 unfolding twins
 twins-all Exact w g e = no-twins [] (rows w) g
 twins-all Folded w g e = lowest-all (no_twin Folded) w e
 
-pub twins-lowest : (p : Profile) (w : List ℕ) → lowest (ok_row_in p) w ≡ Fine → lowest (no_twin p) w ≡ twins p w
+pub none-mapped : (x : Option ℕ) → option_map BadRow x ≡ None → x ≡ None
+none-mapped None e = refl
+none-mapped (Some i) e = never (cc)
+
+pub twins-lowest : (p : Profile) (w : List ℕ) → lowest (ok_row_in p) w ≡ None → lowest (no_twin p) w ≡ twins p w
 unfolding twins
 twins-lowest Exact w e = all-lowest (no_twin Exact) w (no-twins [] (rows w) (lowest-all (ok_row_in Exact) w e))
 twins-lowest Folded w e = refl
 
-all-twins : (p : Profile) (w : List ℕ) → AllBy (no_twin p) [] (rows w) → twins p w ≡ Fine
+all-twins : (p : Profile) (w : List ℕ) → AllBy (no_twin p) [] (rows w) → twins p w ≡ None
 unfolding twins
 all-twins Exact w g = refl
 all-twins Folded w g = all-lowest (no_twin Folded) w g
@@ -144,11 +149,11 @@ module _ (p : Profile) where
   all-good ps (r ∷ rs) h e a b = (sym (ok-parts ps r h e.0) ∙ rw (a.0, b.0), all-good (r ∷ ps) rs (e.0, h) e.1 a.1 b.1)
 
   -- none of 1, 2 and 16 is due of a table exactly when neither 1 nor 2 is due, as names are, of its table of keys
-  pub passes-sized : (w : List ℕ) → checked_in p w ≡ Fine → sized w ≡ true
+  pub passes-sized : (w : List ℕ) → checked_in p w ≡ None → sized w ≡ true
   unfolding checked_in
   passes-sized w = go (sized w)
     where
-      go : (s : Bool) → cond s (lowest (ok_row_in p) w) BadLength ≡ Fine → s ≡ true
+      go : (s : Bool) → cond s (option_map BadRow (lowest (ok_row_in p) w)) (Some BadLength) ≡ None → s ≡ true
       go true h = refl
       go false h = never (cc)
 
@@ -165,13 +170,13 @@ module _ (p : Profile) where
       let b = and-true (eqb (length w % 20) 0) (leb 1 (length w / 20)) a.0 in
       record { whole = eqb-true _ _ b.0; some = leb-true _ _ b.1; most = leb-true _ _ a.1 }
 
-  pub passes-keyed : (w : List ℕ) → Passes p w → checked (keyed p w) ≡ Fine
+  pub passes-keyed : (w : List ℕ) → Passes p w → checked (keyed p w) ≡ None
   unfolding checked_in Whole
   passes-keyed w P =
       let e = passes-sized w P.checked-fine in
       let S = sized-parts w e in
       let n = length-keyed p w S.whole in
-      let a : lowest (ok_row_in p) w ≡ Fine = rw e at P.checked-fine in
+      let a : lowest (ok_row_in p) w ≡ None = none-mapped _ (rw e at P.checked-fine) in
       let h = whole-rows w S.whole in
       sound-fine (keyed p w) (record {
         whole = rw n S.whole;
@@ -180,13 +185,13 @@ module _ (p : Profile) where
         good = rw (rows-keyed p w) (let g = lowest-all (ok_row_in p) w a in all-good [] (rows w) tt h g (twins-all p w g P.no-twins));
       })
 
-  pub keyed-passes : (w : List ℕ) → length w % 20 ≡ 0 → checked (keyed p w) ≡ Fine → Passes p w
+  pub keyed-passes : (w : List ℕ) → length w % 20 ≡ 0 → checked (keyed p w) ≡ None → Passes p w
   unfolding checked_in Whole
   keyed-passes w h f =
       let S = fine-sound (keyed p w) f in
       let n = length-keyed p w h in
       let g = good-all [] (rows w) tt (whole-rows w h) (rw (rows-keyed p w) at S.good) in
       record {
-        checked-fine = rw (sized-true w h (rw n at S.some) (rw n at S.most)) (all-lowest (ok_row_in p) w g.0);
+        checked-fine = rw (sized-true w h (rw n at S.some) (rw n at S.most), all-lowest (ok_row_in p) w g.0);
         no-twins = all-twins p w g.1;
       }

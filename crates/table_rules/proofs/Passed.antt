@@ -31,7 +31,7 @@ use Rattle.table_rules.proofs.Sorted.{good-sorted}
 use Rattle.table_rules.proofs.Within.{within-entry}
 use Rattle.table_rules.proofs.Fine.{fine-sound, table-fine}
 use Rattle.table_rules.proofs.Tests.{AllBy, lowest-all}
-use Rattle.table_rules.proofs.Keyed.{Sized, sized-parts, passes-sized, passes-keyed, keyed-passes}
+use Rattle.table_rules.proofs.Keyed.{Sized, sized-parts, passes-sized, passes-keyed, keyed-passes, none-mapped}
 
 module _ (p : Profile) where
   -- the rules of a row but for the order of names
@@ -102,7 +102,7 @@ module _ (p : Profile) where
 
     A : AllBy (ok_row_in p) [] (rows w)
     unfolding checked_in
-    A = lowest-all (ok_row_in p) w (rw (passes-sized p w P.checked-fine) at P.checked-fine)
+    A = lowest-all (ok_row_in p) w (none-mapped _ (rw (passes-sized p w P.checked-fine) at P.checked-fine))
 
     pub passed-whole : length w % 20 ≡ 0
     passed-whole = S.whole

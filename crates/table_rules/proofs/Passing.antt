@@ -1,5 +1,5 @@
 -- A table of which none of 1, 2 and 16 is due: what the answers to it say.
-use Rattle.std.proofs.Common.{Ok}
+use Rattle.std.proofs.Common.{Ok, Option, Some, None}
 use mathlib.Core.Path.{◌≡◌, refl}
 use mathlib.Core.List.{List, []}
 use mathlib.Core.Bool.{Bool, true, false, cond}
@@ -10,8 +10,6 @@ use Rattle.tree.specs.declared.Profile.{Profile}
 use Rattle.tree.specs.declared.Profile.TheVariants.{Exact, Folded}
 use Rattle.tree.proofs.Never.{never}
 use Rattle.table_row.specs.Table.{rows}
-use Rattle.table_rules.specs.declared.Checked.{Checked}
-use Rattle.table_rules.specs.declared.Checked.TheVariants.{Fine, BadLength, BadRow}
 use Rattle.table_rules.specs.Answer.{is_accepted, Answer}
 use Rattle.table_rules.specs.Refusal.{refusal_of, twins_due}
 use Rattle.table_rules.specs.Faults.{first_refusal}
@@ -20,23 +18,12 @@ use Rattle.table_rules.specs.Contract.{check_due, CheckContract}
 use Rattle.table_rules.proofs.Says.{says-one, says-due, numbered-check}
 use Rattle.table_rules.proofs.Faults.{first-both, refusal-fine}
 
--- number 16 has nothing to say of a length
-twins-rows : (p : Profile) (w : List ℕ) → twins p w ≡ BadLength → ⊥
-unfolding twins lowest
-twins-rows Exact w e = never (cc)
-twins-rows Folded w e = go (ltb (lead_by (no_twin Folded) [] (rows w)) (length w / 20)) e
+pub twins-fine : (p : Profile) (w : List ℕ) (side : ℕ) → is_accepted (twins_due (twins p w) side) ≡ true → twins p w ≡ None
+twins-fine p w side h = go (twins p w) h
   where
-    go : (b : Bool) → cond b (BadRow (lead_by (no_twin Folded) [] (rows w))) Fine ≡ BadLength → ⊥
-    go true e = never (cc)
-    go false e = never (cc)
-
-pub twins-fine : (p : Profile) (w : List ℕ) (side : ℕ) → is_accepted (twins_due (twins p w) side) ≡ true → twins p w ≡ Fine
-twins-fine p w side h = go (twins p w) (twins-rows p w) h
-  where
-    go : (c : Checked) → (c ≡ BadLength → ⊥) → is_accepted (twins_due c side) ≡ true → c ≡ Fine
-    go Fine n h = refl
-    go BadLength n h = absurd (n refl)
-    go (BadRow i) n h = never (cc)
+    go : (c : Option ℕ) → is_accepted (twins_due c side) ≡ true → c ≡ None
+    go None h = refl
+    go (Some i) h = never (cc)
 
 module _ (p : Profile) (w : List ℕ) where
   -- the answer to a check is the one that is due

@@ -1,5 +1,6 @@
 -- The row rules where siblings ascend strictly as they are named: what a table of keys keeps. What is proved of order is
 -- proved of it.
+use Rattle.std.proofs.Common.{Option, Some, None, option_map}
 use mathlib.Core.List.{List, [], ◌∷◌}
 use mathlib.Core.Bool.{Bool, true, false, cond, ◌&&◌}
 use lib.Dec.{ltb}
@@ -8,8 +9,8 @@ use Prim.Native.Nat.{ℕ, suc, ◌/◌, compare}
 use Rattle.tree.specs.Name.{Name, cmp, by_order}
 use Rattle.tree.specs.Rules.{zeros, good_name}
 use Rattle.table_row.specs.Table.{Row, rows, depth, name}
-use Rattle.table_rules.specs.declared.Checked.{Checked}
-use Rattle.table_rules.specs.declared.Checked.TheVariants.{Fine, BadLength, BadRow}
+use Rattle.table_rules.specs.declared.Fault.{Fault}
+use Rattle.table_rules.specs.declared.Fault.TheVariants.{BadLength, BadRow}
 use Rattle.table_rules.specs.Rules.{depth_rule, kind_rule, sized}
 
 -- siblings ascend strictly by name: of the rows before one of depth d and name n, the nearest first, a deeper one is
@@ -29,5 +30,5 @@ lead ps [] = 0
 lead ps (r ∷ rs) = cond (ok_row ps r) (suc (lead (r ∷ ps) rs)) 0
 
 -- the length first, then the lowest row that breaks the rules, of a pair the later
-unfoldable pub checked : List ℕ → Checked
-checked w = cond (sized w) (cond (ltb (lead [] (rows w)) (length w / 20)) (BadRow (lead [] (rows w))) Fine) BadLength
+unfoldable pub checked : List ℕ → Option Fault
+checked w = cond (sized w) (option_map BadRow (cond (ltb (lead [] (rows w)) (length w / 20)) (Some (lead [] (rows w))) None)) (Some BadLength)

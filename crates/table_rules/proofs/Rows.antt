@@ -1,4 +1,5 @@
 -- The row rules in the words that the code reads: the row before, the sibling before, the lowest broken row.
+use Rattle.std.proofs.Common.{Option, Some, None, option_map}
 use mathlib.Core.Path.{◌≡◌, refl, sym, ◌∙◌}
 use mathlib.Core.List.{List, []}
 use mathlib.Core.Bool.{Bool, true, false, cond, not, ◌&&◌}
@@ -19,11 +20,11 @@ use Rattle.tree.proofs.Never.{never}
 use Rattle.table_row.proofs.Table.{rows-cons, rows-nil}
 use Rattle.table_rules.specs.Rules.{depth_rule, kind_rule, sized, before}
 use Rattle.table_rules.specs.Keyed.{sibling, in_order, ok_row_in, is_same, no_twin, lead_by, lowest, checked_in}
-use Rattle.table_rules.specs.declared.Checked.{Checked}
-use Rattle.table_rules.specs.declared.Checked.TheVariants.{Fine, BadLength, BadRow}
+use Rattle.table_rules.specs.declared.Fault.TheVariants.{BadLength, BadRow}
 use Rattle.table_rules.specs.declared.Fit.{Fit}
 use Rattle.table_rules.specs.declared.Fit.TheVariants.{Good, Twin, Bad}
-use Rattle.table_rules.specs.Seen.{fit_after, fit_of, or_row}
+use Rattle.table_rules.specs.Seen.{fit_after, fit_of}
+use Rattle.std.specs.Option.{option_or}
 
 leb-down : (d e : ℕ) → 1 ≤ d → leb (d - 1) e ≡ leb d (e + 1)
 leb-down d e h = go (leb d (e + 1)) refl
@@ -101,11 +102,11 @@ module _ (w : List ℕ) where
   unfolding sized
   sized-true m h g = rw (eq-eqb _ _ m, le-leb _ _ h, le-leb _ _ g)
 
-pub checked-length : (p : Profile) (w : List ℕ) → sized w ≡ false → checked_in p w ≡ BadLength
+pub checked-length : (p : Profile) (w : List ℕ) → sized w ≡ false → checked_in p w ≡ Some BadLength
 unfolding checked_in
 checked-length p w e = rw e
 
-pub checked-lowest : (p : Profile) (w : List ℕ) → sized w ≡ true → checked_in p w ≡ lowest (ok_row_in p) w
+pub checked-lowest : (p : Profile) (w : List ℕ) → sized w ≡ true → checked_in p w ≡ option_map BadRow (lowest (ok_row_in p) w)
 unfolding checked_in
 checked-lowest p w e = rw e
 
@@ -125,13 +126,13 @@ module _ (t : List Row → Row → Bool) (w : List ℕ) where
         let q : lead_by t (before w i) (drop i (rows w)) ≡ suc (lead_by t (before w (i + 1)) (drop (i + 1) (rows w))) = rw (rows-cons w i h, e, add-one) in
         omega arith
 
-    pub lowest-row : i < length w / 20 → t (before w i) (row_at w i) ≡ false → Passed i → lowest t w ≡ BadRow i
+    pub lowest-row : i < length w / 20 → t (before w i) (row_at w i) ≡ false → Passed i → lowest t w ≡ Some i
     unfolding lead_by lowest
     lowest-row h e p =
         let q : lead_by t [] (rows w) ≡ i = p ∙ rw (rows-cons w i h, e, add-zero) in
         rw (q, lt-ltb _ _ h)
 
-    pub lowest-fine : length w / 20 ≤ i → Passed i → lowest t w ≡ Fine
+    pub lowest-fine : length w / 20 ≤ i → Passed i → lowest t w ≡ None
     unfolding lead_by lowest
     lowest-fine h p =
         let q : lead_by t [] (rows w) ≡ i = p ∙ rw (rows-nil w i h, add-zero) in
@@ -139,23 +140,19 @@ module _ (t : List Row → Row → Bool) (w : List ℕ) where
 
 -- what is told of the rows before row i: the lowest that fails a test, or that all pass it
 module _ (t : List Row → Row → Bool) (w : List ℕ) where
-  abbrev pub Told : Checked → ℕ → Type 0
-  Told Fine i = Passed t w i
-  Told BadLength i = ⊥
-  Told (BadRow j) i = lowest t w ≡ BadRow j
+  abbrev pub Told : Option ℕ → ℕ → Type 0
+  Told None i = Passed t w i
+  Told (Some j) i = lowest t w ≡ Some j
 
   module _ (i : ℕ) (h : i < length w / 20) where
-    pub told-next : (c : Checked) → t (before w i) (row_at w i) ≡ true → Told c i → Told c (i + 1)
-    told-next Fine e g = passed-next t w i h e g
-    told-next BadLength e g = g
-    told-next (BadRow j) e g = g
+    pub told-next : (c : Option ℕ) → t (before w i) (row_at w i) ≡ true → Told c i → Told c (i + 1)
+    told-next None e g = passed-next t w i h e g
+    told-next (Some j) e g = g
 
-    pub told-row : (c : Checked) → t (before w i) (row_at w i) ≡ false → Told c i → Told (or_row c i) (i + 1)
-    told-row Fine e g = lowest-row t w i h e g
-    told-row BadLength e g = g
-    told-row (BadRow j) e g = g
+    pub told-row : (c : Option ℕ) → t (before w i) (row_at w i) ≡ false → Told c i → Told (option_or c (Some i)) (i + 1)
+    told-row None e g = lowest-row t w i h e g
+    told-row (Some j) e g = g
 
-  pub told-all : (i : ℕ) → length w / 20 ≤ i → (c : Checked) → Told c i → c ≡ lowest t w
-  told-all i h Fine g = sym (lowest-fine t w i h g)
-  told-all i h BadLength g = absurd g
-  told-all i h (BadRow j) g = sym g
+  pub told-all : (i : ℕ) → length w / 20 ≤ i → (c : Option ℕ) → Told c i → c ≡ lowest t w
+  told-all i h None g = sym (lowest-fine t w i h g)
+  told-all i h (Some j) g = sym g

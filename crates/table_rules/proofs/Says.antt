@@ -1,5 +1,5 @@
 -- Answers: number, side and place fix one, and those that are due are numbers of a refusal.
-use Rattle.std.proofs.Common.{Ok, Err}
+use Rattle.std.proofs.Common.{Ok, Err, Option, Some, None}
 use mathlib.Core.Path.{◌≡◌, refl, sym, ap, ◌∙◌}
 use mathlib.Core.List.{List, [], ◌∷◌}
 use mathlib.Core.Bool.{Bool, true, false}
@@ -7,8 +7,8 @@ use lib.Dec.{eqb}
 use Prim.Native.Nat.{ℕ}
 use borrow.Author.Tests.{ne_eqb}
 use Rattle.tree.specs.declared.Profile.{Profile}
-use Rattle.table_rules.specs.declared.Checked.{Checked}
-use Rattle.table_rules.specs.declared.Checked.TheVariants.{Fine, BadLength, BadRow}
+use Rattle.table_rules.specs.declared.Fault.{Fault}
+use Rattle.table_rules.specs.declared.Fault.TheVariants.{BadLength, BadRow}
 use Rattle.table_rules.specs.declared.Refusal.{Refusal}
 use Rattle.table_rules.specs.Answer.{number_of, side_of, place_of, is_accepted, Says, Answer, refusal}
 use Rattle.table_rules.specs.Faults.{first_refusal, unless}
@@ -35,15 +35,14 @@ Numbered a = is_accepted a ≡ eqb (number_of a) 0
 pub says-due : (a : Answer) → Numbered a → Says a (number_of a) (side_of a) (place_of a)
 says-due a n = record { number-due = refl; side-due = refl; place-due = refl; accepted = n }
 
-pub numbered-refusal : (c : Checked) (side : ℕ) → Numbered (refusal_of c side)
-numbered-refusal Fine side = refl
-numbered-refusal BadLength side = refl
-numbered-refusal (BadRow i) side = refl
+pub numbered-refusal : (c : Option Fault) (side : ℕ) → Numbered (refusal_of c side)
+numbered-refusal None side = refl
+numbered-refusal (Some BadLength) side = refl
+numbered-refusal (Some (BadRow i)) side = refl
 
-pub numbered-twins : (c : Checked) (side : ℕ) → Numbered (twins_due c side)
-numbered-twins Fine side = refl
-numbered-twins BadLength side = refl
-numbered-twins (BadRow i) side = refl
+pub numbered-twins : (c : Option ℕ) (side : ℕ) → Numbered (twins_due c side)
+numbered-twins None side = refl
+numbered-twins (Some i) side = refl
 
 pub numbered-unless : (b : Bool) (n side : ℕ) → (n ≡ 0 → ⊥) → Numbered (unless b n side)
 numbered-unless true n side h = refl

@@ -1,5 +1,5 @@
 -- The row rules where names are matched by a key: what a check of a table finds for numbers 1 and 2, and for number 16.
-use Rattle.std.specs.Prelude.{◌≡◌, List, [], ◌∷◌, Bool, true, false, cond, ◌&&◌, not, ltb, length}
+use Rattle.std.specs.Prelude.{◌≡◌, List, [], ◌∷◌, Bool, true, false, cond, ◌&&◌, not, ltb, length, Option, Some, None, option_map}
 use Prim.Native.Nat.{ℕ, suc, ◌/◌, compare}
 use Rattle.tree.specs.Name.{Name, cmp, by_order}
 use Rattle.tree.specs.Rules.{zeros, good_name}
@@ -10,8 +10,8 @@ use Rattle.std.specs.declared.cmp.Ordering.{Ordering as Order}
 use Rattle.std.specs.declared.cmp.Ordering.TheVariants.{Less, Equal, Greater}
 use Rattle.table_row.specs.Order.{ordered}
 use Rattle.table_row.specs.Table.{Row, rows, depth, name}
-use Rattle.table_rules.specs.declared.Checked.{Checked}
-use Rattle.table_rules.specs.declared.Checked.TheVariants.{Fine, BadLength, BadRow}
+use Rattle.table_rules.specs.declared.Fault.{Fault}
+use Rattle.table_rules.specs.declared.Fault.TheVariants.{BadLength, BadRow}
 use Rattle.table_rules.specs.Rules.{depth_rule, kind_rule, sized}
 
 -- how the sibling before a row of depth d and name n stands to it, by their keys; less where there is none. Of the rows
@@ -48,20 +48,20 @@ lead_by t ps [] = 0
 lead_by t ps (r ∷ rs) = cond (t ps r) (suc (lead_by t (r ∷ ps) rs)) 0
 
 -- the lowest row of a table that fails a test
-unfoldable pub lowest : (List Row → Row → Bool) → List ℕ → Checked
-lowest t w = cond (ltb (lead_by t [] (rows w)) (length w / 20)) (BadRow (lead_by t [] (rows w))) Fine
+unfoldable pub lowest : (List Row → Row → Bool) → List ℕ → Option ℕ
+lowest t w = cond (ltb (lead_by t [] (rows w)) (length w / 20)) (Some (lead_by t [] (rows w))) None
 
 -- numbers 1 and 2: the length first, then the lowest row that breaks the rules, of a pair the later
-unfoldable pub checked_in : Profile → List ℕ → Checked
-checked_in p w = cond (sized w) (lowest (ok_row_in p) w) BadLength
+unfoldable pub checked_in : Profile → List ℕ → Option Fault
+checked_in p w = cond (sized w) (option_map BadRow (lowest (ok_row_in p) w)) (Some BadLength)
 
 -- number 16, asked after 1 and 2 of all the call's tables: the second of two siblings that are equal after folding. Where
 -- every byte counts it is never due
-unfoldable pub twins : Profile → List ℕ → Checked
-twins Exact w = Fine
+unfoldable pub twins : Profile → List ℕ → Option ℕ
+twins Exact w = None
 twins Folded w = lowest (no_twin Folded) w
 
 -- a table of which none of 1, 2 and 16 is due
 pub record Passes (p : Profile) (w : List ℕ) : Type 0 where
-  pub checked-fine : checked_in p w ≡ Fine
-  pub no-twins : twins p w ≡ Fine
+  pub checked-fine : checked_in p w ≡ None
+  pub no-twins : twins p w ≡ None

@@ -1,12 +1,11 @@
 -- What one pass over a table sees: how each row follows those before it, and what is wrong with the whole.
-use Rattle.std.specs.Prelude.{◌≡◌, List, cond, ℕ}
+use Rattle.std.specs.Prelude.{◌≡◌, List, cond, ℕ, None, option_map}
 use Rattle.tree.specs.declared.Profile.{Profile}
 use Rattle.tree.specs.declared.Profile.TheVariants.{Exact, Folded}
 use Rattle.std.specs.declared.cmp.Ordering.{Ordering as Order}
 use Rattle.std.specs.declared.cmp.Ordering.TheVariants.{Less, Equal, Greater}
 use Rattle.table_row.specs.Table.{Row}
-use Rattle.table_rules.specs.declared.Checked.{Checked}
-use Rattle.table_rules.specs.declared.Checked.TheVariants.{Fine, BadLength, BadRow}
+use Rattle.table_rules.specs.declared.Fault.TheVariants.{BadRow}
 use Rattle.table_rules.specs.declared.Fit.{Fit}
 use Rattle.table_rules.specs.declared.Fit.TheVariants.{Good, Twin, Bad}
 use Rattle.table_rules.specs.declared.Seen.{Seen}
@@ -23,17 +22,11 @@ fit_after p Greater = Bad
 abbrev pub fit_of : Profile → List Row → Row → Fit
 fit_of p ps r = cond (ok_row_in p ps r) (cond (no_twin p ps r) Good Twin) Bad
 
--- what was found first, then row i
-abbrev pub or_row : Checked → ℕ → Checked
-or_row Fine i = BadRow i
-or_row BadLength i = BadLength
-or_row (BadRow j) i = BadRow j
-
 -- number 16 is asked only where no row breaks the rules
 pub record SeesRows (p : Profile) (w : List ℕ) (s : Seen) : Type 0 where
-  pub lowest-bad : s.rows ≡ lowest (ok_row_in p) w
-  pub lowest-twin : s.rows ≡ Fine → s.twins ≡ lowest (no_twin p) w
+  pub lowest-bad : s.rows ≡ option_map BadRow (lowest (ok_row_in p) w)
+  pub lowest-twin : s.rows ≡ None → s.twins ≡ lowest (no_twin p) w
 
 pub record Sees (p : Profile) (w : List ℕ) (s : Seen) : Type 0 where
   pub seen-rows : s.rows ≡ checked_in p w
-  pub seen-twins : checked_in p w ≡ Fine → s.twins ≡ twins p w
+  pub seen-twins : checked_in p w ≡ None → s.twins ≡ twins p w

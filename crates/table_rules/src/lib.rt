@@ -13,19 +13,18 @@ pub struct Refusal {
 // The answer of a call that has one place.
 pub type Answer = Result<usize, Refusal>;
 
-// What a check of a table finds.
+// What breaks the rules for numbers 1 and 2: the table's length, or the lowest row that does.
 #[derive(Clone, Copy)]
-pub enum Checked {
-    Fine,
+pub enum Fault {
     BadLength,
     BadRow(usize),
 }
 
-// What is wrong with a table: for numbers 1 and 2 and, where that is nothing, for number 16.
+// What is wrong with a table: for numbers 1 and 2 and, where that is nothing, for number 16 the row of the lowest twin.
 #[derive(Clone, Copy)]
 pub struct Seen {
-    pub rows: Checked,
-    pub twins: Checked,
+    pub rows: Option<Fault>,
+    pub twins: Option<usize>,
 }
 
 // How a row follows those before it: well, with the key of the sibling before where letter case is ignored, or not at all.

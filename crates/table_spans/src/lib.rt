@@ -8,17 +8,16 @@ ghost use Rattle.table_rules.specs.Keyed.{Passes};
 ghost use Rattle.table_find.specs.Entry.{Finds};
 ghost use Rattle.table_follow.specs.Follow.{follow};
 ghost use Rattle.table_stands.specs.Around.{entry_end};
-ghost use Rattle.table_moved.specs.Path.{parent_of, path_of};
 ghost use Rattle.table_moved.specs.Pieces.{folder_at, Spans};
 
 use table_moved::Span;
 
-// The row of the path's parent, where that is a folder.
-pub fn parent_row(t: &[u32], names: [[u32; 8]; 16], depth: usize) -> Option<usize>
-    requires { Passes Exact t.now × (1 ≤ depth) × (depth ≤ 16) }
-    ensures { Finds t.now (folder_at (tree_of t.now) (parent_of names depth)) result }
+// The row that the path of a parent leads to, where that is a folder.
+pub fn parent_row(t: &[u32], parent: &[[u32; 8]]) -> Option<usize>
+    requires { Passes Exact t.now }
+    ensures { Finds t.now (folder_at (tree_of t.now) parent.now) result }
 {
-    let i = table_follow::lookup(t, names, 0, depth - 1)?;
+    let i = table_follow::lookup(t, parent)?;
     if table_row::word(t, i, 1) == 0 {
         return Some(i);
     }
@@ -37,11 +36,11 @@ pub fn entry_end(t: &[u32], f: usize, name: [u32; 8]) -> usize
 }
 
 // Where a table has the words of what it holds at a path: none for absence.
-pub fn span_at(t: &[u32], names: [[u32; 8]; 16], depth: usize) -> Span
-    requires { (20 ≤ length t.now) × (depth ≤ 16) }
-    ensures { Spans t.now (follow (path_of names depth) t.now) result }
+pub fn span_at(t: &[u32], path: &[[u32; 8]]) -> Span
+    requires { 20 ≤ length t.now }
+    ensures { Spans t.now (follow path.now t.now) result }
 {
-    match table_follow::lookup(t, names, 0, depth) {
+    match table_follow::lookup(t, path) {
         Some(i) => {
             let e = table_find::subtree_end(t, i);
             Span {

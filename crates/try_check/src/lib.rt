@@ -8,12 +8,12 @@ use tree::Profile;
 
 // The answer to the first n words.
 fn tell_check(rt: &impl Print, line: &[u8], words: &[u32], n: usize) -> io::Result<()> {
-    if words.len() < n {
+    let Some(table) = words.get(..n) else {
         return Ok(());
-    }
+    };
     try_show::print_case(rt, line)?;
-    try_show::print_answer(rt, table_answers::check_table(Profile::Exact, &words[..n]))?;
-    try_show::print(rt, b"\n")
+    try_show::print_answer(rt, table_answers::check_table(Profile::Exact, table))?;
+    println!(rt;)
 }
 
 // The changes of a table that stand from field k of a line on.
@@ -22,13 +22,11 @@ fn change(line: &[u8], k: usize, table: &mut [u32])
     ensures { length table.new ≡ length table.old }
 {
     let n = try_fields::count(line, k) % 10;
-    let mut i = 0;
-    while i < n {
+    for i in 0..n {
         let at = k + 1 + 3 * i;
         let from = try_fields::count(line, at);
         let to = try_fields::count(line, at + 1);
         try_rows::set_words(table, from, to, try_fields::word(line, at + 2));
-        i += 1;
     }
 }
 

@@ -1,90 +1,95 @@
-// The fields of a line, parted by spaces, and the numbers in them, for the programs that try the calls.
+// The lines of the input, the fields of a line, parted by spaces, and the numbers and bytes in them, for the programs that try
+// the calls.
 #![tactic(auto)]
 
-ghost use Rattle.std.specs.Prelude.{◌≤◌, ◌<◌, length};
+ghost use Rattle.std.specs.Prelude.{◌≤◌, ◌<◌, length, IfSome};
 
-// The place after the next space of a line.
-fn next_word(line: &[u8], from: usize) -> usize {
-    let mut at = from;
-    while at < line.len() {
-        if line[at] == b' ' {
-            return at + 1;
-        }
-        at += 1;
+use std::io;
+use std::io::Read;
+
+// What is done with each line of an input, in order.
+pub fn each_line<F: FnMut(&[u8]) -> io::Result<()>>(
+    input: &mut impl Read,
+    mut try_line: F,
+) -> io::Result<()>
+    requires { F.IsAlwaysCallable try_line }
+{
+    let mut text = [0u8; 65536];
+    let n = read_whole::fill(input, &mut text)?;
+    for line in text[..n].split_inclusive(|&b| b == b'\n') {
+        try_line(line.strip_suffix(b"\n").unwrap_or(line))?;
     }
-    at
+    Ok(())
 }
 
-// Where field k of a line starts.
-pub fn field(line: &[u8], k: usize) -> usize {
-    let mut at = 0;
-    let mut i = 0;
-    while i < k {
-        at = next_word(line, at);
-        i += 1;
-    }
-    at
+// Field k of a line and what follows it, nothing where there is no such field.
+pub fn rest(line: &[u8], k: usize) -> &[u8] {
+    line.splitn(k.saturating_add(1), |&b| b == b' ')
+        .nth(k)
+        .unwrap_or(&[])
+}
+
+// Field k of a line.
+pub fn field(line: &[u8], k: usize) -> &[u8] {
+    line.split(|&b| b == b' ').nth(k).unwrap_or(&[])
 }
 
 // A digit, up to `f`.
 fn value_of(b: u8) -> u64
     ensures { result < 256 }
 {
-    let x = b as u64;
-    if x < 48 {
-        return 0;
+    match b {
+        0..48 => 0,
+        48..87 => u64::from(b) - 48,
+        _ => u64::from(b) - 87,
     }
-    if x < 87 { x - 48 } else { x - 87 }
 }
 
-// Ten or sixteen times the low word of a number.
-fn times(n: u64, decimal: bool) -> u64
-    ensures { result < 1099511627776 }
+// The number in field k of a line, by its base; of what is before a digit, only the low word counts.
+fn number(line: &[u8], k: usize, base: u64) -> u64
+    requires { base ≤ 16 }
 {
-    let low = n % 4294967296;
-    if decimal { 10 * low } else { 16 * low }
-}
-
-// The number in field k of a line, in decimal or hexadecimal.
-fn number(line: &[u8], k: usize, decimal: bool) -> u64 {
     let mut n = 0;
-    let mut at = field(line, k);
-    while at < line.len() {
-        if line[at] == b' ' {
-            return n;
-        }
-        n = times(n, decimal) + value_of(line[at]);
-        at += 1;
+    for &b in field(line, k) {
+        n = base * (n % 4294967296) + value_of(b);
     }
     n
 }
 
 // A count, in decimal.
 pub fn count(line: &[u8], k: usize) -> usize {
-    number(line, k, true) as usize
+    number(line, k, 10) as usize
 }
 
 // A word, in hexadecimal.
 pub fn word(line: &[u8], k: usize) -> u32 {
-    (number(line, k, false) % 4294967296) as u32
+    (number(line, k, 16) % 4294967296) as u32
 }
 
 // A word, in decimal.
 pub fn small(line: &[u8], k: usize) -> u32 {
-    (number(line, k, true) % 4294967296) as u32
+    (number(line, k, 10) % 4294967296) as u32
 }
 
-// The end of the line that starts at a place of a text.
-pub fn line_end(text: &[u8], from: usize) -> usize
-    requires { from ≤ length text.now }
-    ensures { (from ≤ result) × (result ≤ length text.now) }
+// The value of a digit, where the letters begin with one that is 10; zero for any other byte.
+fn digit(b: u8, ten: u8) -> u8
+    ensures { result < 16 }
 {
-    let mut at = from;
-    while at < text.len() {
-        if text[at] == 10 {
-            return at;
-        }
-        at += 1;
+    match b {
+        b'0'..=b'9' => b - b'0',
+        _ if ten <= b && b - ten < 6 => 10 + (b - ten),
+        _ => 0,
     }
-    at
+}
+
+// The first byte that a text stands for and what is left of the text: % and two digits are a byte, as is any other.
+pub fn first_byte(text: &[u8], ten: u8) -> Option<(u8, &[u8])>
+    ensures { IfSome result (λ first. length first.1.now < length text.now) }
+{
+    match text {
+        [] => None,
+        [b'%', high, low, left @ ..] => Some((16 * digit(*high, ten) + digit(*low, ten), left)),
+        [b'%', ..] => Some((0, &[])),
+        [b, left @ ..] => Some((*b, left)),
+    }
 }

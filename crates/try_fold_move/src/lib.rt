@@ -1,8 +1,6 @@
 // One case of a move in a profile.
 #![tactic(auto)]
 
-ghost use Rattle.std.specs.Prelude.{◌<◌};
-
 use std::io;
 use tree::Profile;
 
@@ -18,14 +16,12 @@ fn move_in(
     let names = try_spelling::path_of(line, 3);
     let depth = try_fields::small(line, 4);
     let room = try_fields::count(line, 5);
-    if res.len() < room {
+    let Some(lent) = res.get_mut(..room) else {
         return Ok(());
-    }
-    let rows = try_show::print_answer(
-        rt,
-        table_move::make_move(profile, target, source, names, depth, &mut res[..room]),
-    )?;
-    try_show_spelled::print_result(rt, res, rows)
+    };
+    let answer = table_move::make_move(profile, target, source, names, depth, lent);
+    let rows = try_show::print_answer(rt, answer)?;
+    try_show_rows::print_result(rt, res, rows, try_show_spelled::print_row)
 }
 
 // A move on the tables of a line.

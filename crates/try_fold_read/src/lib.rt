@@ -1,8 +1,6 @@
 // One text read in a profile, and the table written again.
 #![tactic(auto)]
 
-ghost use Rattle.std.specs.Prelude.{◌<◌, length};
-
 use std::io;
 use std::rt::Files;
 use tree::Profile;
@@ -10,9 +8,9 @@ use tree::Profile;
 // Whether the words are zero.
 fn print_zeros(rt: &impl Print, words: &[u32]) -> io::Result<()> {
     if table_names::all_zero(words) {
-        try_show::print(rt, b" zeros")
+        print!(rt; " zeros")
     } else {
-        try_show::print(rt, b" NOT ZEROS")
+        print!(rt; " NOT ZEROS")
     }
 }
 
@@ -21,15 +19,15 @@ fn tell_rows(rt: &impl Print, profile: Profile, table: &[u32], rows: usize) -> i
     if table.len() / 20 < rows {
         return Ok(());
     }
-    let a = 20 * rows;
+    let (read, past) = table.split_at(20 * rows);
     if rows < 20 {
-        try_show_spelled::print_rows(rt, &table[..a])?;
+        try_show_rows::print_rows(rt, read, try_show_spelled::print_row)?;
     }
-    try_show::print_number(rt, try_show::sum(&table[..a]) as usize)?;
-    print_zeros(rt, &table[a..])?;
+    print!(rt; " {}", try_show::sum(read))?;
+    print_zeros(rt, past)?;
     if 0 < rows {
-        try_show::print(rt, b"\n   written")?;
-        try_written::tell_write(rt, profile, &table[..a], 65536)?;
+        print!(rt; "\n   written")?;
+        try_written::tell_write(rt, profile, read, 65536)?;
     }
     Ok(())
 }
@@ -48,16 +46,14 @@ fn read_in(
     table: &mut [u32],
     words: usize,
 ) -> io::Result<()> {
-    if words <= table.len() {
-        tell_read(rt, profile, text, &mut table[..words])?;
+    match table.get_mut(..words) {
+        Some(lent) => tell_read(rt, profile, text, lent),
+        None => Ok(()),
     }
-    Ok(())
 }
 
 // A line `text` or `many`.
-pub fn try_read(rt: &(impl Files + Print), profile: Profile, line: &[u8]) -> io::Result<()>
-    requires { 0 < length line.now }
-{
+pub fn try_read(rt: &(impl Files + Print), profile: Profile, line: &[u8]) -> io::Result<()> {
     let mut text = [0u8; 65600];
     let mut table = [try_show::CANARY; 82000];
     let n = try_texts::make(rt, line, &mut text);

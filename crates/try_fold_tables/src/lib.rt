@@ -19,9 +19,9 @@ pub fn try_check(rt: &impl Print, profile: Profile, line: &[u8]) -> io::Result<(
 
 // The rows to carry.
 fn tell_entry(rt: &impl Print, rows: &[u32]) -> io::Result<()> {
-    try_show::print_number(rt, rows.len() / 20)?;
-    try_show_spelled::print_rows(rt, rows)?;
-    try_show::print_number(rt, try_show::sum(rows) as usize)
+    print!(rt; " {}", rows.len() / 20)?;
+    try_show_rows::print_rows(rt, rows, try_show_spelled::print_row)?;
+    print!(rt; " {}", try_show::sum(rows))
 }
 
 // A line `entry`.

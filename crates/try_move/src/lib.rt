@@ -6,38 +6,17 @@ use tree::Profile;
 
 // The slot of a byte: a name of that byte, or one of three that no path may have within its depth.
 fn slot_of(b: u8) -> [u32; 8] {
-    let mut slot = [0u32; 8];
-    slot[0] = try_rows::name_of(b);
-    if b == b'^' {
-        slot[0] = 0x2E2E0000;
+    match b {
+        b'^' => [0x2E2E0000, 0, 0, 0, 0, 0, 0, 0],
+        b'!' => [0x61006100, 0, 0, 0, 0, 0, 0, 0],
+        b'~' => [0, 0, 0, 0, 0, 0, 0, 1],
+        _ => [try_rows::name_of(b), 0, 0, 0, 0, 0, 0, 0],
     }
-    if b == b'!' {
-        slot[0] = 0x61006100;
-    }
-    if b == b'~' {
-        slot[0] = 0;
-        slot[7] = 1;
-    }
-    slot
 }
 
 // The path in field k of a line.
 fn path_of(line: &[u8], k: usize) -> [[u32; 8]; 16] {
-    let mut names = [[0u32; 8]; 16];
-    let mut at = try_fields::field(line, k);
-    let mut i = 0;
-    while at < line.len() {
-        if line[at] == b' ' {
-            return names;
-        }
-        if i == 16 {
-            return names;
-        }
-        names[i] = slot_of(line[at]);
-        at += 1;
-        i += 1;
-    }
-    names
+    try_spelling::slots(try_fields::field(line, k).iter().map(|&b| slot_of(b)))
 }
 
 // A move with the first words of a room.
@@ -51,23 +30,14 @@ pub fn tell_move(
     res: &mut [u32],
     room: usize,
 ) -> io::Result<()> {
-    if res.len() < room {
+    let Some(lent) = res.get_mut(..room) else {
         return Ok(());
-    }
+    };
     try_show::print_case(rt, line)?;
-    let rows = try_show::print_answer(
-        rt,
-        table_move::make_move(
-            Profile::Exact,
-            target,
-            source,
-            names,
-            depth,
-            &mut res[..room],
-        ),
-    )?;
-    try_show_rows::print_result(rt, res, rows)?;
-    try_show::print(rt, b"\n")
+    let answer = table_move::make_move(Profile::Exact, target, source, names, depth, lent);
+    let rows = try_show::print_answer(rt, answer)?;
+    try_show_rows::print_result(rt, res, rows, try_show_rows::print_small)?;
+    println!(rt;)
 }
 
 // A line `move`.

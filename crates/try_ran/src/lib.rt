@@ -10,11 +10,10 @@ use std::io;
 pub fn room(line: &[u8], k: usize, most: usize) -> usize
     ensures { result ≤ most }
 {
-    if line.len() <= try_fields::field(line, k) {
+    if try_fields::rest(line, k).is_empty() {
         return most;
     }
-    let n = try_fields::count(line, k);
-    if most < n { most } else { n }
+    try_fields::count(line, k).min(most)
 }
 
 // What a run made; nothing where it is refused.
@@ -53,10 +52,8 @@ pub fn print_ran(rt: &impl Print, ran: Ran) -> io::Result<Counts> {
 
 // Each of some words.
 fn print_words(rt: &impl Print, words: &[u32]) -> io::Result<()> {
-    let mut i = 0;
-    while i < words.len() {
-        try_show::print_number(rt, table_row::wide(words[i]))?;
-        i += 1;
+    for word in words {
+        print!(rt; " {word}")?;
     }
     Ok(())
 }
@@ -73,5 +70,5 @@ pub fn print_list(rt: &impl Print, list: &[u32], entries: usize) -> io::Result<(
     } else {
         try_show::print_number(rt, try_show::sum(&list[..n]) as usize)?;
     }
-    try_show::print_number(rt, try_show::kept(&list[n..]))
+    try_show::print_number(rt, try_show::kept(&list[n..], &try_show::CANARY))
 }

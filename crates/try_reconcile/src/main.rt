@@ -25,8 +25,12 @@ fn try_run(rt: &impl Print, line: &[u8], o: &[u32], l: &[u32], r: &[u32]) -> io:
         &mut right,
         &mut list,
     )?;
-    try_show_rows::print_results(rt, &archive, n.archive, &left, n.left, &right, n.right)?;
-    try_show::print(rt, b"\n")
+    try_show_rows::print_results(
+        rt,
+        [(&archive, n.archive), (&left, n.left), (&right, n.right)],
+        try_show_rows::print_small,
+    )?;
+    println!(rt;)
 }
 
 // The tables of a line, and a run on them.
@@ -41,23 +45,7 @@ fn try_line(rt: &impl Print, line: &[u8]) -> io::Result<()> {
     try_run(rt, line, &o[..a], &l[..b], &r[..c])
 }
 
-// Line by line.
-fn try_lines(rt: &impl Print, text: &[u8]) -> io::Result<()> {
-    let mut from = 0;
-    while from < text.len() {
-        let end = try_fields::line_end(text, from);
-        try_line(rt, &text[from..end])?;
-        if end == text.len() {
-            return Ok(());
-        }
-        from = end + 1;
-    }
-    Ok(())
-}
-
-// The cases of the input.
+// Every line of the input.
 fn main(rt: HostRuntime) -> io::Result<()> {
-    let mut text = [0u8; 65536];
-    let n = read_whole::fill(&mut rt.stdin(), &mut text)?;
-    try_lines(&rt, &text[..n])
+    try_fields::each_line(&mut rt.stdin(), |line| try_line(&rt, line))
 }

@@ -3,28 +3,29 @@
 
 ghost use Rattle.std.specs.Prelude.{◌≡◌, ◌≤◌, ◌<◌, length};
 
-// A byte as a word.
-pub fn wide(x: u8) -> u32
-    ensures { result < 256 }
-{
-    x as u32
+// The number of a byte: `0` is 0, `@` is 16 and `A` is 17.
+pub fn digit(b: u8) -> u32 {
+    u32::from(b).saturating_sub(48)
 }
 
 // The first word of a name of one byte.
 pub fn name_of(b: u8) -> u32 {
-    if b == b'_' { 0 } else { 16777216 * wide(b) }
+    if b == b'_' {
+        0
+    } else {
+        u32::from_be_bytes([b, 0, 0, 0])
+    }
 }
 
 // Row i of a table, the other words left as they are.
 pub fn put_row(table: &mut [u32], i: usize, depth: u32, kind: u32, name: u32, size: u32)
     ensures { length table.new ≡ length table.old }
 {
-    if i < table.len() / 20 {
-        let at = 20 * i;
-        table[at] = depth;
-        table[at + 1] = kind;
-        table[at + 2] = name;
-        table[at + 11] = size;
+    if let Some(row) = table.as_chunks_mut::<20>().0.get_mut(i) {
+        row[0] = depth;
+        row[1] = kind;
+        row[2] = name;
+        row[11] = size;
     }
 }
 
@@ -41,24 +42,18 @@ pub fn fill_many(table: &mut [u32], n: u32) -> usize
     if table.len() < words {
         return 0;
     }
-    let mut i = 1;
-    while i < n {
+    for i in 1..n {
         put_row(table, i as usize, 1, 1, numbered(i), i);
-        i += 1;
     }
     words
 }
 
-// The words from one place to another become a value.
+// The words from one place to another become a value, as far as there are words.
 pub fn set_words(table: &mut [u32], from: usize, to: usize, value: u32)
     ensures { length table.new ≡ length table.old }
 {
-    let mut i = from;
-    while i < to {
-        if table.len() <= i {
-            return;
-        }
-        table[i] = value;
-        i += 1;
+    let end = to.min(table.len());
+    if from < end {
+        table[from..end].fill(value);
     }
 }

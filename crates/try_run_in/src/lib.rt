@@ -29,5 +29,9 @@ pub fn run_on(
         &mut right,
         &mut list,
     )?;
-    try_show_spelled::print_results(rt, &archive, n.archive, &left, n.left, &right, n.right)
+    try_show_rows::print_results(
+        rt,
+        [(&archive, n.archive), (&left, n.left), (&right, n.right)],
+        try_show_spelled::print_row,
+    )
 }

@@ -4,42 +4,32 @@
 
 ghost use Rattle.std.specs.Prelude.{◌≡◌, ◌≤◌, ◌<◌, length};
 
-// The digit of a byte: `0` is 0, `@` is 16 and `A` is 17.
-fn digit(b: u8) -> u32 {
-    let x = try_rows::wide(b);
-    if x < 48 { 0 } else { x - 48 }
-}
-
 // The kind of a byte: d is a folder, f a file, and any other a kind that there is not.
 fn kind_of(b: u8) -> u32 {
-    if b == b'd' {
-        return 0;
+    match b {
+        b'd' => 0,
+        b'f' => 1,
+        _ => 2,
     }
-    if b == b'f' { 1 } else { 2 }
 }
 
 // The rows of the table in field k of a line, at the start of a table; their words.
 pub fn fill(line: &[u8], k: usize, table: &mut [u32]) -> usize
     ensures { (result ≤ length table.old) × (length table.new ≡ length table.old) }
 {
-    let mut at = try_fields::field(line, k);
     let mut words = 0;
-    while at < line.len() {
-        if line.len() - at < 5 {
-            return words;
+    for &[depth, kind, name, size, _] in try_fields::rest(line, k).as_chunks::<5>().0 {
+        if depth < b'0' || table.len() - words < 20 {
+            break;
         }
-        if line[at] < b'0' {
-            return words;
-        }
-        if table.len() - words < 20 {
-            return words;
-        }
-        let depth = digit(line[at]);
-        let kind = kind_of(line[at + 1]);
-        let name = try_rows::name_of(line[at + 2]);
-        let size = digit(line[at + 3]);
-        try_rows::put_row(table, words / 20, depth, kind, name, size);
-        at += 5;
+        try_rows::put_row(
+            table,
+            words / 20,
+            try_rows::digit(depth),
+            kind_of(kind),
+            try_rows::name_of(name),
+            try_rows::digit(size),
+        );
         words += 20;
     }
     words

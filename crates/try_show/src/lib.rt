@@ -4,50 +4,29 @@
 ghost use Rattle.std.specs.Prelude.{◌≤◌, ◌<◌};
 
 use std::io;
+use table_rules::Answer;
 
 // What stands in a result before a call.
 pub const CANARY: u32 = 0xC0FFEE11;
 
-// A word as a wider number.
-fn widest(x: u32) -> u64
-    ensures { result < 4294967296 }
-{
-    x as u64
-}
-
 // A number that depends on every word and its place.
 pub fn sum(words: &[u32]) -> u64 {
     let mut s = 0;
-    let mut i = 0;
-    while i < words.len() {
-        s = (31 * s + widest(words[i])) % 4294967291;
-        i += 1;
+    for &word in words {
+        s = (31 * s + u64::from(word)) % 4294967291;
     }
     s
 }
 
-// 1 for a word that is as it was before a call, else 0.
-fn one_if_kept(word: u32) -> usize
-    ensures { result ≤ 1 }
-{
-    if word == CANARY { 1 } else { 0 }
-}
-
-// How many words are as they were before a call.
-pub fn kept(words: &[u32]) -> usize {
-    let mut n = 0;
-    let mut i = 0;
-    while i < words.len() {
-        n += one_if_kept(words[i]);
-        i += 1;
-    }
-    n
+// How many words or bytes are as they were before a call, when a mark stood there.
+pub fn kept<T: PartialEq>(all: &[T], mark: &T) -> usize {
+    all.iter().filter(|&x| x == mark).count()
 }
 
 // The line of a case, and a colon.
 pub fn print_case(rt: &impl Print, case: &[u8]) -> io::Result<()> {
-    print(rt, case)?;
-    print(rt, b":")
+    rt.write_all(case)?;
+    print!(rt; ":")
 }
 
 // Some text.
@@ -61,21 +40,14 @@ pub fn print_number(rt: &impl Print, x: usize) -> io::Result<()> {
 }
 
 // An answer's number, side and place; the rows written.
-pub fn print_answer(rt: &impl Print, answer: table_rules::Answer) -> io::Result<usize> {
+pub fn print_answer(rt: &impl Print, answer: Answer) -> io::Result<usize> {
     match answer {
-        table_rules::Answer::Accepted { place } => {
-            print(rt, b" 0 0")?;
-            print_number(rt, place)?;
+        Ok(place) => {
+            print!(rt; " 0 0 {place}")?;
             Ok(place)
         }
-        table_rules::Answer::Refused {
-            number,
-            side,
-            place,
-        } => {
-            print_number(rt, number as usize)?;
-            print_number(rt, side as usize)?;
-            print_number(rt, place)?;
+        Err(refusal) => {
+            print!(rt; " {} {} {}", refusal.number, refusal.side, refusal.place)?;
             Ok(0)
         }
     }

@@ -1,116 +1,104 @@
 // Prints rows and results, for the programs that try the calls.
 #![tactic(auto)]
 
-ghost use Rattle.std.specs.Prelude.{◌≡◌, length, ◌<◌};
-
 use std::io;
 
-// The low byte of a word.
-fn print_byte(rt: &impl Print, b: u32) -> io::Result<()> {
-    let one = [(b % 256) as u8];
-    try_show::print(rt, &one)
+// The digit of a depth or of a size.
+pub fn digit(x: u32) -> u8 {
+    (48 + x % 64) as u8
 }
 
 // A row's kind: d or f.
-fn print_kind(rt: &impl Print, kind: u32) -> io::Result<()> {
-    if kind == 0 {
-        try_show::print(rt, b"d")
-    } else {
-        try_show::print(rt, b"f")
-    }
+pub fn kind(x: u32) -> u8 {
+    if x == 0 { b'd' } else { b'f' }
 }
 
 // The first byte of a name, _ where it has none.
-fn print_name(rt: &impl Print, word: u32) -> io::Result<()> {
+fn letter(word: u32) -> u8 {
     if word == 0 {
-        try_show::print(rt, b"_")
+        b'_'
     } else {
-        print_byte(rt, word / 16777216)
+        word.to_be_bytes()[0]
     }
 }
 
-// The rows of some words as the text that they are written as, in brackets.
-pub fn print_rows(rt: &impl Print, words: &[u32]) -> io::Result<()> {
-    try_show::print(rt, b" [")?;
-    let mut i = 0;
-    while i < words.len() / 20 {
-        let at = 20 * i;
-        print_byte(rt, 48 + words[at] % 64)?;
-        print_kind(rt, words[at + 1])?;
-        print_name(rt, words[at + 2])?;
-        print_byte(rt, 48 + words[at + 11] % 64)?;
-        try_show::print(rt, b",")?;
-        i += 1;
+// A row as the five bytes that it is written as in a small table.
+pub fn print_small(rt: &impl Print, row: &[u32; 20]) -> io::Result<()> {
+    let text = [
+        digit(row[0]),
+        kind(row[1]),
+        letter(row[2]),
+        digit(row[11]),
+        b',',
+    ];
+    rt.write_all(&text)
+}
+
+// The rows of some words in brackets, each printed as the caller says.
+pub fn print_rows<P: Print, F: Fn(&P, &[u32; 20]) -> io::Result<()>>(
+    rt: &P,
+    words: &[u32],
+    print_row: F,
+) -> io::Result<()>
+    requires { F.IsAlwaysCallable print_row }
+{
+    print!(rt; " [")?;
+    for row in words.as_chunks::<20>().0 {
+        print_row(rt, row)?;
     }
-    try_show::print(rt, b"]")
+    print!(rt; "]")
 }
 
 // The rows at the start of a result, a few of them written out, then their sum, and how many words past them are kept.
-pub fn print_result(rt: &impl Print, res: &[u32], rows: usize) -> io::Result<()> {
+pub fn print_result<P: Print, F: Fn(&P, &[u32; 20]) -> io::Result<()>>(
+    rt: &P,
+    res: &[u32],
+    rows: usize,
+    print_row: F,
+) -> io::Result<()>
+    requires { F.IsAlwaysCallable print_row }
+{
     if res.len() / 20 < rows {
         return Ok(());
     }
-    let a = 20 * rows;
+    let (table, past) = res.split_at(20 * rows);
     if rows < 20 {
-        print_rows(rt, &res[..a])?;
+        print_rows(rt, table, print_row)?;
     }
-    try_show::print_number(rt, try_show::sum(&res[..a]) as usize)?;
-    try_show::print_number(rt, try_show::kept(&res[a..]))
+    print!(rt;
+        " {} {}",
+        try_show::sum(table),
+        try_show::kept(past, &try_show::CANARY)
+    )
 }
 
 // The three new tables of a reconciliation, each with its rows.
-pub fn print_results(
-    rt: &impl Print,
-    archive: &[u32],
-    archive_rows: usize,
-    left: &[u32],
-    left_rows: usize,
-    right: &[u32],
-    right_rows: usize,
-) -> io::Result<()> {
-    print_result(rt, archive, archive_rows)?;
-    print_result(rt, left, left_rows)?;
-    print_result(rt, right, right_rows)
+pub fn print_results<P: Print, F: Fn(&P, &[u32; 20]) -> io::Result<()>>(
+    rt: &P,
+    results: [(&[u32], usize); 3],
+    print_row: F,
+) -> io::Result<()>
+    requires { F.IsAlwaysCallable print_row }
+{
+    for (res, rows) in results {
+        print_result(rt, res, rows, &print_row)?;
+    }
+    Ok(())
 }
 
 // A byte of a name: itself, or its two digits after %.
-pub fn print_letter(rt: &impl Print, b: u8) -> io::Result<()> {
+fn print_letter(rt: &impl Print, b: u8) -> io::Result<()> {
     match b {
-        b'%' | b',' | b'"' => {}
-        33..=126 => {
-            let one = [b];
-            return try_show::print(rt, &one);
-        }
-        _ => {}
-    }
-    print!(rt; "%{b:02x}")
-}
-
-// Byte k of the name of a row.
-fn name_byte(row: &[u32], k: usize) -> u8
-    requires { (length row.now ≡ 20) × (k < 32) }
-{
-    let word = row[2 + k / 4];
-    match k % 4 {
-        0 => (word / 16777216 % 256) as u8,
-        1 => (word / 65536 % 256) as u8,
-        2 => (word / 256 % 256) as u8,
-        _ => (word % 256) as u8,
+        b'%' | b',' | b'"' | 0..=32 | 127..=255 => print!(rt; "%{b:02x}"),
+        _ => rt.write_all(&[b]),
     }
 }
 
 // The bytes of a row's name, up to the zeros that end it.
-pub fn print_spelling(rt: &impl Print, row: &[u32]) -> io::Result<()>
-    requires { length row.now ≡ 20 }
-{
-    let mut k = 0;
-    while k < 32 {
-        let b = name_byte(row, k);
-        if b == 0 {
-            return Ok(());
-        }
+pub fn print_spelling(rt: &impl Print, row: &[u32; 20]) -> io::Result<()> {
+    let bytes = row[2..10].iter().flat_map(|word| word.to_be_bytes());
+    for b in bytes.take_while(|&b| b != 0) {
         print_letter(rt, b)?;
-        k += 1;
     }
     Ok(())
 }

@@ -9,10 +9,8 @@ fn put_many(table: &mut [u32], words: usize, first: u32) -> usize
     ensures { (result ≤ length table.old) × (length table.new ≡ length table.old) }
 {
     let mut end = words;
-    let mut i = 0;
-    while i < 4090 {
+    for i in 0..4090 {
         end = try_spelled_rows::put_file(table, end, i, first);
-        i += 1;
     }
     end
 }
@@ -22,12 +20,10 @@ fn put(row: &[u8], table: &mut [u32], words: usize) -> usize
     requires { words ≤ length table.old }
     ensures { (result ≤ length table.old) × (length table.new ≡ length table.old) }
 {
-    if row.len() == 0 {
-        return words;
-    }
-    match row[0] {
-        b'+' => put_many(table, words, 65),
-        b'-' => put_many(table, words, 97),
+    match row.first() {
+        None => words,
+        Some(b'+') => put_many(table, words, 65),
+        Some(b'-') => put_many(table, words, 97),
         _ => try_spelled_rows::put_row(row, table, words),
     }
 }
@@ -36,15 +32,12 @@ fn put(row: &[u8], table: &mut [u32], words: usize) -> usize
 pub fn fill(line: &[u8], k: usize, table: &mut [u32]) -> usize
     ensures { (result ≤ length table.old) × (length table.new ≡ length table.old) }
 {
-    let mut at = try_fields::field(line, k);
     let mut words = 0;
-    while at < line.len() {
-        if line[at] == b' ' {
-            return words;
+    for row in try_fields::rest(line, k).split(|&b| b == b',') {
+        if row.starts_with(b" ") {
+            break;
         }
-        let end = try_spelling::piece_end(line, at, b',');
-        words = put(&line[at..end], table, words);
-        at = end + 1;
+        words = put(row, table, words);
     }
     words
 }

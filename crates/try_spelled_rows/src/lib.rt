@@ -4,27 +4,9 @@
 
 ghost use Rattle.std.specs.Prelude.{◌≡◌, ◌≤◌, ◌<◌, length};
 
-// The number of a byte: `0` is 0 and `@` is 16.
-fn number(b: u8) -> u32 {
-    let x = try_spelling::wide(b);
-    if x < 48 { 0 } else { x - 48 }
-}
-
 // The kind of a byte.
 fn kind_of(b: u8) -> u32 {
     if b == b'd' { 0 } else { 1 }
-}
-
-// A name at a place of a table.
-fn put_name(table: &mut [u32], at: usize, name: [u32; 8])
-    requires { at ≤ length table.old }
-    ensures { length table.new ≡ length table.old }
-{
-    let mut i = 0;
-    while i < 8 {
-        try_rows::set_words(table, at + i, at + i + 1, name[i]);
-        i += 1;
-    }
 }
 
 // A row at a place of a table, whose words are zero.
@@ -32,17 +14,17 @@ pub fn put_row(row: &[u8], table: &mut [u32], words: usize) -> usize
     requires { words ≤ length table.old }
     ensures { (result ≤ length table.old) × (length table.new ≡ length table.old) }
 {
-    if row.len() < 3 {
+    let [depth, kind, size, name @ ..] = row else {
         return words;
-    }
+    };
     if table.len() - words < 20 {
         return words;
     }
-    let name = try_spelling::name_of(&row[3..]);
-    let depth = number(row[0]);
-    let size = number(row[2]);
-    try_rows::put_row(table, words / 20, depth, kind_of(row[1]), name[0], size);
-    put_name(table, words + 2, name);
+    let name = try_spelling::name_of(name);
+    let depth = try_rows::digit(*depth);
+    let size = try_rows::digit(*size);
+    try_rows::put_row(table, words / 20, depth, kind_of(*kind), name[0], size);
+    table[words + 2..words + 10].copy_from_slice(&name);
     words + 20
 }
 

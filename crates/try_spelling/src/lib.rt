@@ -2,93 +2,49 @@
 // each name, as in `P/x/`; a byte of a name is itself, or % and two digits.
 #![tactic(auto)]
 
-ghost use Rattle.std.specs.Prelude.{◌≤◌, ◌<◌, length};
+ghost use Rattle.std.specs.Iterator.{IsFinite};
 
-// The value of a digit, up to `f`.
-fn digit(b: u8) -> u8
-    ensures { result < 16 }
-{
-    match b {
-        b'0'..=b'9' => b - b'0',
-        b'a'..=b'f' => b - 87,
-        _ => 0,
+// The 32 bytes that a piece stands for, zero past its end.
+fn bytes_of(piece: &[u8]) -> [u8; 32] {
+    let mut bytes = [0; 32];
+    let mut left = piece;
+    for byte in &mut bytes {
+        let Some((first, next)) = try_fields::first_byte(left, b'a') else {
+            break;
+        };
+        *byte = first;
+        left = next;
     }
-}
-
-// The byte of a name that stands at a place of a piece, zero past its end.
-fn byte_at(piece: &[u8], at: usize) -> u8 {
-    if piece.len() <= at {
-        return 0;
-    }
-    if piece[at] != b'%' {
-        return piece[at];
-    }
-    if piece.len() - at < 3 {
-        return 0;
-    }
-    16 * digit(piece[at + 1]) + digit(piece[at + 2])
-}
-
-// The place after what stands for that byte.
-fn after(piece: &[u8], at: usize) -> usize {
-    if piece.len() <= at {
-        return at;
-    }
-    if piece[at] == b'%' { at + 3 } else { at + 1 }
-}
-
-// A byte as a word.
-pub fn wide(x: u8) -> u32
-    ensures { result < 256 }
-{
-    x as u32
+    bytes
 }
 
 // The name that a piece stands for.
 pub fn name_of(piece: &[u8]) -> [u32; 8] {
-    let mut name = [0u32; 8];
-    let mut at = 0;
-    let mut k = 0;
-    while k < 32 {
-        let word = name[k / 4] % 16777216;
-        name[k / 4] = 256 * word + wide(byte_at(piece, at));
-        at = after(piece, at);
-        k += 1;
+    let bytes = bytes_of(piece);
+    let mut name = [0; 8];
+    for (word, four) in name.iter_mut().zip(bytes.as_chunks::<4>().0) {
+        *word = u32::from_be_bytes(*four);
     }
     name
 }
 
-// Where the piece that starts at a place of a line has its last byte: a comma or a slash.
-pub fn piece_end(line: &[u8], from: usize, last: u8) -> usize
-    requires { from ≤ length line.now }
-    ensures { (from ≤ result) × (result ≤ length line.now) }
+// The slots of a path: the names that come, as far as there are slots, and zeros.
+pub fn slots<I: Iterator<Item = [u32; 8]>>(names: I) -> [[u32; 8]; 16]
+    requires { I.can_next names × IsFinite (I.remaining names) }
 {
-    let mut at = from;
-    while at < line.len() {
-        if line[at] == last {
-            return at;
-        }
-        at += 1;
+    let mut slots = [[0; 8]; 16];
+    for (slot, name) in slots.iter_mut().zip(names) {
+        *slot = name;
     }
-    at
+    slots
 }
 
 // The path in field k of a line.
 pub fn path_of(line: &[u8], k: usize) -> [[u32; 8]; 16] {
-    let mut names = [[0u32; 8]; 16];
-    let mut at = try_fields::field(line, k);
-    let mut i = 0;
-    while at < line.len() {
-        if line[at] == b' ' {
-            return names;
-        }
-        if i == 16 {
-            return names;
-        }
-        let end = piece_end(line, at, b'/');
-        names[i] = name_of(&line[at..end]);
-        at = end + 1;
-        i += 1;
-    }
-    names
+    let pieces = try_fields::rest(line, k).split(|&b| b == b'/');
+    slots(
+        pieces
+            .take_while(|piece| !piece.starts_with(b" "))
+            .map(name_of),
+    )
 }

@@ -6,18 +6,15 @@
 // A change is FROM TO VALUE: the words from one place to another become a value.
 #![tactic(auto)]
 
-ghost use Rattle.std.specs.Prelude.{◌<◌};
-
 use std::io;
 use tree::Profile;
 
 // The rows that are carried.
 fn tell_rows(rt: &impl Print, line: &[u8], rows: &[u32]) -> io::Result<()> {
     try_show::print_case(rt, line)?;
-    try_show::print_number(rt, rows.len() / 20)?;
-    try_show_rows::print_rows(rt, rows)?;
-    try_show::print_number(rt, try_show::sum(rows) as usize)?;
-    try_show::print(rt, b"\n")
+    print!(rt; " {}", rows.len() / 20)?;
+    try_show_rows::print_rows(rt, rows, try_show_rows::print_small)?;
+    println!(rt; " {}", try_show::sum(rows))
 }
 
 // A line `entry`.
@@ -45,34 +42,15 @@ fn try_entry(rt: &impl Print, line: &[u8]) -> io::Result<()> {
 
 // One line, by its first letter.
 fn try_line(rt: &impl Print, line: &[u8]) -> io::Result<()> {
-    if line.len() == 0 {
-        return Ok(());
-    }
-    match line[0] {
-        b'c' => try_check::try_check(rt, line),
-        b'l' => try_check::try_large(rt, line),
-        b'e' => try_entry(rt, line),
+    match line.first() {
+        Some(b'c') => try_check::try_check(rt, line),
+        Some(b'l') => try_check::try_large(rt, line),
+        Some(b'e') => try_entry(rt, line),
         _ => Ok(()),
     }
 }
 
-// Each line of a text.
-fn try_lines(rt: &impl Print, text: &[u8]) -> io::Result<()> {
-    let mut from = 0;
-    while from < text.len() {
-        let end = try_fields::line_end(text, from);
-        try_line(rt, &text[from..end])?;
-        if end == text.len() {
-            return Ok(());
-        }
-        from = end + 1;
-    }
-    Ok(())
-}
-
 // Every line of the input.
 fn main(rt: HostRuntime) -> io::Result<()> {
-    let mut text = [0u8; 65536];
-    let n = read_whole::fill(&mut rt.stdin(), &mut text)?;
-    try_lines(&rt, &text[..n])
+    try_fields::each_line(&mut rt.stdin(), |line| try_line(&rt, line))
 }

@@ -15,13 +15,11 @@ fn pad(text: &mut [u8], n: usize, to: usize) -> usize
     requires { n ≤ length text.old }
     ensures { (result ≤ length text.old) × (length text.new ≡ length text.old) }
 {
-    let mut end = try_bytes::put_byte(text, n, b'#');
-    let mut i = n + 2;
-    while i < to {
-        end = try_bytes::put_byte(text, end, b'-');
-        i += 1;
+    let mut end = try_bytes::put(text, n, b"#");
+    for _ in n + 2..to {
+        end = try_bytes::put(text, end, b"-");
     }
-    try_bytes::put_byte(text, end, 10)
+    try_bytes::put(text, end, b"\n")
 }
 
 // A letter for the low four bits of a number.
@@ -34,15 +32,11 @@ fn grow(text: &mut [u8], count: u32, step: u32) -> usize
     ensures { (result ≤ length text.old) × (length text.new ≡ length text.old) }
 {
     let mut n = try_bytes::put(text, 0, b"/set type=dir\n.\n");
-    let mut i = 0;
     let mut k = 0;
-    while i < count {
+    for _ in 0..count {
         k = (k + step % 4096) % 4096;
-        n = try_bytes::put_byte(text, n, letter(k / 256));
-        n = try_bytes::put_byte(text, n, letter(k / 16));
-        n = try_bytes::put_byte(text, n, letter(k));
+        n = try_bytes::put(text, n, &[letter(k / 256), letter(k / 16), letter(k)]);
         n = try_bytes::put(text, n, b"\n..\n");
-        i += 1;
     }
     n
 }
@@ -60,29 +54,17 @@ fn load(rt: &impl Files, name: &[u8], text: &mut [u8]) -> usize
     read_whole::fill(&mut file, text).unwrap_or(0)
 }
 
-// The bytes of the file that field k of a line and what follows it name.
-fn load_field(rt: &impl Files, line: &[u8], k: usize, text: &mut [u8]) -> usize
-    ensures { (result ≤ length text.old) × (length text.new ≡ length text.old) }
-{
-    let at = try_fields::field(line, k);
-    if line.len() < at {
-        return 0;
-    }
-    load(rt, &line[at..], text)
-}
-
 // The text of a case; its bytes.
 pub fn make(rt: &impl Files, line: &[u8], text: &mut [u8]) -> usize
-    requires { 0 < length line.now }
     ensures { (result ≤ length text.old) × (length text.new ≡ length text.old) }
 {
-    match line[0] {
-        b't' => try_bytes::decode(line, 2, text),
-        b'p' => {
+    match line.first() {
+        Some(b't') => try_bytes::decode(line, 2, text),
+        Some(b'p') => {
             let n = try_bytes::decode(line, 3, text);
             pad(text, n, try_fields::count(line, 2))
         }
-        b'm' => grow(text, try_fields::small(line, 2), try_fields::small(line, 3)),
-        _ => load_field(rt, line, 2, text),
+        Some(b'm') => grow(text, try_fields::small(line, 2), try_fields::small(line, 3)),
+        _ => load(rt, try_fields::rest(line, 2), text),
     }
 }

@@ -7,33 +7,18 @@ ghost use Rattle.std.specs.Prelude.{◌≡◌, ◌<◌, length};
 use std::io;
 use tree::Profile;
 
-// An answer: its number, side and place.
-fn tell(rt: &impl Print, number: u32, side: u32, place: usize) -> io::Result<()> {
-    println!(rt; "# {number} {side} {place}")
-}
-
-// The first n of some bytes.
-fn print(rt: &impl Print, text: &[u8], n: usize) -> io::Result<()> {
-    if n <= text.len() {
-        rt.write_all(&text[..n])?;
-    }
-    Ok(())
-}
-
-// Writes a table into the lent bytes, prints the text, and tells the answer; the bytes written.
+// Writes a table into the lent bytes, prints the text, and tells the answer, a number, a side and a place; the bytes written.
 fn show(rt: &impl Print, table: &[u32], text: &mut [u8]) -> io::Result<usize> {
     match listing_write::write(Profile::Exact, table, text) {
-        table_rules::Answer::Accepted { place } => {
-            print(rt, text, place)?;
-            tell(rt, 0, 0, place)?;
-            Ok(place)
+        Ok(bytes) => {
+            if let Some(written) = text.get(..bytes) {
+                rt.write_all(written)?;
+            }
+            println!(rt; "# 0 0 {bytes}")?;
+            Ok(bytes)
         }
-        table_rules::Answer::Refused {
-            number,
-            side,
-            place,
-        } => {
-            tell(rt, number, side, place)?;
+        Err(refusal) => {
+            println!(rt; "# {} {} {}", refusal.number, refusal.side, refusal.place)?;
             Ok(0)
         }
     }
@@ -41,10 +26,9 @@ fn show(rt: &impl Print, table: &[u32], text: &mut [u8]) -> io::Result<usize> {
 
 // With only the first n bytes lent.
 fn show_within(rt: &impl Print, table: &[u32], text: &mut [u8], n: usize) -> io::Result<()> {
-    if text.len() < n {
-        return Ok(());
+    if let Some(lent) = text.get_mut(..n) {
+        show(rt, table, lent)?;
     }
-    show(rt, table, &mut text[..n])?;
     Ok(())
 }
 

@@ -4,23 +4,19 @@
 ghost use Rattle.std.specs.Prelude.{◌≡◌, ◌<◌, length};
 
 // Byte j of all that a name may hold, 1 to 255 but 47; zero past them.
-fn byte(j: u32) -> u32
-    ensures { result < 256 }
-{
-    if j < 46 {
-        return j + 1;
+fn byte(j: u8) -> u8 {
+    match j {
+        0..46 => j + 1,
+        46..254 => j + 2,
+        _ => 0,
     }
-    if j < 254 {
-        return j + 2;
-    }
-    0
 }
 
 // Four of them in a word.
-fn four(j: u32) -> u32
-    requires { j < 256 }
+fn four(j: u8) -> u32
+    requires { j < 253 }
 {
-    16777216 * byte(j) + 65536 * byte(j + 1) + 256 * byte(j + 2) + byte(j + 3)
+    u32::from_be_bytes([byte(j), byte(j + 1), byte(j + 2), byte(j + 3)])
 }
 
 // The row of file k: four of them stand before the folders, and four after.
@@ -36,15 +32,13 @@ pub fn fill_files(table: &mut [u32; 520])
     requires { length table.old ≡ 520 }
     ensures { length table.new ≡ 520 }
 {
-    let mut i = 0;
-    while i < 64 {
+    for i in 0..64 {
         let at = 20 * row_of(i / 8);
-        let word = four(4 * (i as u32));
+        let word = four(4 * (i as u8));
         table[at] = 1;
         table[at + 1] = 1;
         table[at + 2 + i % 8] = word;
         table[at + 12 + i % 8] = word;
-        i += 1;
     }
 }
 
@@ -80,11 +74,9 @@ pub fn fill_folders(table: &mut [u32; 520])
     table[100] = 1;
     table[102] = 0x656D7074;
     table[103] = 0x79000000;
-    let mut d = 1;
-    while d <= 16 {
+    for d in 1..=16 {
         let at = 20 * (d + 5);
         table[at] = d as u32;
         table[at + 2] = 0x70000000;
-        d += 1;
     }
 }

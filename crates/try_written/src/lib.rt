@@ -1,50 +1,19 @@
 // One case of writing in a profile: a table, the room that is lent, and the answer, the text and what is left of the room.
 #![tactic(auto)]
 
-ghost use Rattle.std.specs.Prelude.{◌≤◌, ◌<◌};
-
 use std::io;
 use tree::Profile;
 
 // What stands in a text before it is written.
 const MARK: u8 = b'~';
 
-// A byte of a text.
-fn print_byte(rt: &impl Print, b: u8) -> io::Result<()> {
-    if b == 10 {
-        return try_show::print(rt, b"|");
-    }
-    let one = [b];
-    try_show::print(rt, &one)
-}
-
 // The bytes of a text, in brackets.
 fn print_text(rt: &impl Print, text: &[u8]) -> io::Result<()> {
-    try_show::print(rt, b" [")?;
-    let mut i = 0;
-    while i < text.len() {
-        print_byte(rt, text[i])?;
-        i += 1;
+    print!(rt; " [")?;
+    for &b in text {
+        rt.write_all(&[if b == b'\n' { b'|' } else { b }])?;
     }
-    try_show::print(rt, b"]")
-}
-
-// 1 for a byte that is as it was before a call, else 0.
-fn one_if_kept(b: u8) -> usize
-    ensures { result ≤ 1 }
-{
-    if b == MARK { 1 } else { 0 }
-}
-
-// How many bytes are as they were before a call.
-fn kept(text: &[u8]) -> usize {
-    let mut n = 0;
-    let mut i = 0;
-    while i < text.len() {
-        n += one_if_kept(text[i]);
-        i += 1;
-    }
-    n
+    print!(rt; "]")
 }
 
 // A table written into the first bytes of a text, which is marked.
@@ -55,18 +24,16 @@ fn tell_written(
     text: &mut [u8],
     room: usize,
 ) -> io::Result<()> {
-    if text.len() < room {
+    let Some(lent) = text.get_mut(..room) else {
         return Ok(());
-    }
-    let bytes = try_show::print_answer(
-        rt,
-        listing_write::write(profile, table, &mut text[..room]),
-    )?;
+    };
+    let bytes = try_show::print_answer(rt, listing_write::write(profile, table, lent))?;
     if text.len() < bytes {
         return Ok(());
     }
-    print_text(rt, &text[..bytes])?;
-    try_show::print_number(rt, kept(&text[bytes..]))
+    let (written, past) = text.split_at(bytes);
+    print_text(rt, written)?;
+    print!(rt; " {}", try_show::kept(past, &MARK))
 }
 
 // A table written into a text of its own.

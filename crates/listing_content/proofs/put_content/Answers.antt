@@ -2,7 +2,7 @@
 use mathlib.Core.Path.{◌∙◌}
 use borrow.Author.Rules.{rules}
 use Rattle.table_row.specs.Table.{row_at}
-use Rattle.listing_spell.proofs.Poured.{left-all, left_less, left-last}
+use Rattle.listing_spell.proofs.Poured.{rest-all, rest_less, rest-last}
 use Rattle.listing_content.specs.Rows.{content_text}
 use Rattle.listing_content.proofs.Content.{size-words, digest-part}
 use Rattle.listing_content.proofs.put_content.Goals as goal
@@ -12,10 +12,10 @@ unfolding content_text
 returns c =
     let a = c.args in
     let n = c.size_at.ensures ∙ size-words (row_at a.t.now a.i) in
-    left-last 115
-    (left_less _
-    (left_less _
-    (left_less _ (left_less _ (left-all _ _ _) c.put_all-p.ensures) (rw n at c.put_decimal-q.ensures))
-    c.put_all-r.ensures)
-    (rw (digest-part a.t.now a.i) at c.put_hex-s.ensures))
-    c.put_all.ensures (search rules)
+    rest-last 115
+    (rest_less _
+    (rest_less _
+    (rest_less _ (rest_less _ (rest-all _ _) c.put_all.ensures) (rw n at c.put_decimal.ensures))
+    c.put_all-2.ensures)
+    (rw (digest-part a.t.now a.i) at c.put_hex.ensures))
+    c.put_all-3.ensures (search rules)

@@ -26,4 +26,4 @@ unfolding decimal
 returns c =
     let l = c.loop-k in
     let e : l.k ≡ 0 = search rules in
-    (search rules, search rules, ap (λ (k : ℕ). decimal k l.m (drop l.k l.digits)) (sym e) ∙ l.invariant.2)
+    (search rules, search rules, ap (λ (k : ℕ). decimal k l.m (drop k l.digits)) (sym e) ∙ l.invariant.2)

@@ -8,6 +8,3 @@ use Rattle.listing_numbers.proofs.fill_digits.Given as goal
 
 abbrev pub invariant-loop-k : goal.invariant-loop-k
 invariant-loop-k l = (l.k ≤ 20) × (length l.digits ≡ 20) × (decimal l.k l.m (drop l.k l.digits) ≡ decimal 20 l.n [])
-
-abbrev pub decreases-loop-k : goal.decreases-loop-k
-decreases-loop-k l = l.k

@@ -1,13 +1,11 @@
 -- `listing_spell::byte_at` meets its contract: byte k is one of word k / 4.
-use mathlib.Core.Path.{ap, ◌∙◌}
-use mathlib.Core.List.{List}
-use lib.ListN.{get_or}
-use Prim.Native.Nat.{ℕ, ◌%◌}
-use borrow.Author.Rules.{rules}
+use Rattle.std.proofs.Common.{rules, arith, ap, ◌∙◌, List, get_or, ℕ, ◌%◌, ◌/◌}
 use Rattle.table_names.proofs.Words.{byte-is}
+use Rattle.listing_spell.proofs.Spelling.{be-bytes}
 use Rattle.listing_spell.proofs.byte_at.Goals as goal
 
 pub returns : goal.returns
 returns c =
     let a = c.args in
-    ap (λ (l : List ℕ). get_or l (a.k % 4) 0) c.bytes_of-b.ensures ∙ byte-is a.s.now a.k (search rules)
+    let x = get_or a.s.now (a.k / 4) 0 in
+    ap (λ (l : List ℕ). get_or l (a.k % 4) 0) (c.to_be_bytes.ensures ∙ be-bytes x (omega (arith, c.type_inv.s (a.k / 4)))) ∙ byte-is a.s.now a.k (search rules)

@@ -36,8 +36,8 @@ module _ (w : List ℕ) {out : List ℕ} {n most : ℕ} (P : Puts [] 0 (text_by_
 pub put_listing-n-requires : goal.put_listing-n-requires
 put_listing-n-requires c = let P = c.requires in passed_words P.0 _ P.1
 
-pub put_listing-place-requires : goal.put_listing-place-requires
-put_listing-place-requires c = let P = c.requires in passed_words P.0 _ P.1
+pub put_listing-requires : goal.put_listing-requires
+put_listing-requires c = let P = c.requires in passed_words P.0 _ P.1
 
 pub returns-then-has_room : goal.returns-then-has_room
 returns-then-has_room c =
@@ -45,7 +45,7 @@ returns-then-has_room c =
     let s = text_of (tree_of a.table.now) in
     let same = same_text a.table.now c.requires (λ i. omega (arith, c.type_inv.table i)) in
     let yes = sym (room c.args.table.now c.put_listing-n.ensures c.args.text.now same c.has_room.ensures) ∙ c.if-has_room.true in
-    let P = rw (nothing c.args.table.now c.put_listing-n.ensures, same) at c.put_listing-place.ensures in
+    let P = rw (nothing c.args.table.now c.put_listing-n.ensures, same) at c.put_listing.ensures in
     rw (P.holds ∙ poured-over a.text.now s (fits-lent (length s) (length a.text.now) yes), P.counted ∙ zero-add (length s))
     (done s a.text.now yes)
 

@@ -1,7 +1,6 @@
 -- `plan_text_entry::put_entry` meets its contract: the mark, a space, the path, the line's end.
-use Prim.Native.Nat.{◌^◌}
-use borrow.Author.Rules.{rules}
-use Rattle.listing_spell.proofs.Poured.{left-all, left_less, left-last}
+use Rattle.std.proofs.Common.{rules, ◌^◌}
+use Rattle.listing_spell.proofs.Poured.{rest-all, rest_less, rest-last}
 use Rattle.plan_text.specs.Text.{marked}
 use Rattle.plan_text.proofs.Words.{entry-words}
 use Rattle.plan_text_entry.proofs.put_entry.Goals as goal
@@ -11,8 +10,6 @@ unfolding marked
 returns c =
     let a = c.args in
     rw (entry-words a.left.now a.right.now a.list.now a.k)
-    (left-last (2 ^ 21)
-    (left_less _
-    (left_less _ (left_less _ (left-all _ _ _) c.put_mark-p.ensures) c.put_all-q.ensures)
-    (rw (c.wide-i.ensures.0, c.wide-j.ensures.0) at c.put_side-s.ensures))
-    c.put_all.ensures (search rules))
+    (rest-last (2 ^ 21)
+    (rest_less _ (rest_less _ (rest_less _ (rest-all _ _) c.put_mark.ensures) c.put_all.ensures) c.put_side.ensures)
+    c.put_all-2.ensures (search rules))

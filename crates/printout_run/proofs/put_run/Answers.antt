@@ -38,7 +38,7 @@ put_plan-requires c =
     let l : length c.reconcile_plain-ran.new.list ≡ 1146 = c.reconcile_plain-ran.auto.list ∙ length-replicate {A = ℕ} 1146 0 in
     let a = short c.args.profile c.args.l.now c.requires.1 in
     let b = short c.args.profile c.args.r.now c.requires.2 in
-    (simp length-take (omega arith), omega arith, omega arith, omega arith)
+    (simp length-take (omega arith), omega arith, omega arith)
 
 pub returns : goal.returns
 returns c =

@@ -1,7 +1,6 @@
 -- `table_answers::check_table` meets its contract: what the check found, answered for side 1.
-use Rattle.std.proofs.Common.{◌≡◌, refl, [], ◌∷◌, ◌∙◌, sym, ap, rules, List, ℕ}
+use Rattle.std.proofs.Common.{◌≡◌, refl, [], ◌∷◌, ◌∙◌, sym, ap, rules, List, ℕ, Option}
 use Rattle.tree.specs.declared.Profile.{Profile}
-use Rattle.table_rules.specs.declared.Checked.{Checked}
 use Rattle.table_rules.specs.declared.Seen.{Seen}
 use Rattle.table_rules.specs.Answer.{Answer}
 use Rattle.table_rules.specs.Keyed.{checked_in}
@@ -18,7 +17,7 @@ checked : (p : Profile) (w : List ℕ) {s : Seen} → Sees p w s → {a b x : An
     → first_refusal (a ∷ []) b ≡ x → CheckContract p w x
 unfolding check_due
 checked p w S e f h =
-    let d = sym h ∙ rw (e, f, S.seen-rows) (first_then (checked_in p w) 1 (λ z. ap (λ (y : Checked). twins_due y 1) (S.seen-twins z))) in
+    let d = sym h ∙ rw (e, f, S.seen-rows) (first_then (checked_in p w) 1 (λ z. ap (λ (y : Option ℕ). twins_due y 1) (S.seen-twins z))) in
     record { says = rw d (says-due (check_due p w) (numbered-check p w)) }
 
 pub returns-in_err-refusal : goal.returns-in_err-refusal

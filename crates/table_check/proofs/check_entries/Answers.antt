@@ -1,5 +1,6 @@
 -- `table_check::check_entries` meets its contract: the rows before row i are good, the lowest twin among them is told, and the
 -- last row of each depth is remembered.
+use Rattle.std.proofs.Common.{Some, None}
 use mathlib.Core.Path.{◌≡◌, sym, ◌∙◌}
 use mathlib.Core.Bool.{true}
 use native.Mathlib.Omega.{arith}
@@ -8,7 +9,7 @@ use Rattle.tree.proofs.Never.{never}
 use Rattle.table_row.specs.Table.{row_at, depth}
 use Rattle.table_rules.specs.Rules.{before}
 use Rattle.table_rules.specs.Keyed.{ok_row_in, no_twin}
-use Rattle.table_rules.specs.declared.Checked.TheVariants.{Fine, BadRow}
+use Rattle.table_rules.specs.declared.Fault.TheVariants.{BadRow}
 use Rattle.table_rules.proofs.Rows.{passed-next, lowest-row, lowest-fine, fit-good, fit-twin, fit-bad, told-next, told-row, told-all}
 use Rattle.table_check.proofs.Last.{depth-most, lasts-first, lasts-next, root-passes, ok-depth}
 use Rattle.table_check.proofs.check_entries.Goals as goal
@@ -30,7 +31,7 @@ returns-in-Bad c =
     let i = c.loop-i.i in
     let b = fit-bad a.profile _ _ (sym c.row_fit.ensures ∙ c.in-Bad.is) in
     let e = lowest-row (ok_row_in a.profile) w i (search rules) b c.loop-i.invariant.3 in
-    record { lowest-bad = sym e; lowest-twin = λ g. let n : BadRow i ≡ Fine = g in never (cc) }
+    record { lowest-bad = rw e; lowest-twin = λ g. let n : Some (BadRow i) ≡ None = g in never (cc) }
 
 pub remember-requires : goal.remember-requires
 remember-requires c =
@@ -62,7 +63,7 @@ loop-i-preserved c =
       passed-next (ok_row_in p) w i (search rules) good c.loop-i.invariant.3,
       elim c.match-row_fit.branch [
         | in-Good z ↦ rw z.twins-is (told-next (no_twin p) w i (search rules) c.loop-i.twins (fit-good p _ _ (fit ∙ z.in-Good.is)).1 c.loop-i.invariant.4)
-        | in-Twin z ↦ rw (z.twins-is, z.or_row-twins.ensures) (told-row (no_twin p) w i (search rules) c.loop-i.twins (fit-twin p _ _ (fit ∙ z.in-Twin.is)).1 c.loop-i.invariant.4)
+        | in-Twin z ↦ rw (z.twins-is, z.or-twins.ensures) (told-row (no_twin p) w i (search rules) c.loop-i.twins (fit-twin p _ _ (fit ∙ z.in-Twin.is)).1 c.loop-i.invariant.4)
       ],
     )
 
@@ -72,6 +73,6 @@ returns c =
     let w = a.t.now in
     let i = c.loop-i.i in
     record {
-      lowest-bad = sym (lowest-fine (ok_row_in a.profile) w i (search rules) c.loop-i.invariant.3);
+      lowest-bad = rw (lowest-fine (ok_row_in a.profile) w i (search rules) c.loop-i.invariant.3);
       lowest-twin = λ g. told-all (no_twin a.profile) w i (search rules) c.loop-i.twins c.loop-i.invariant.4;
     }

@@ -11,7 +11,7 @@ use Rattle.table_pieces.proofs.carry_in.Goals as goal
 pub parent_row-requires : goal.parent_row-requires
 parent_row-requires c =
     let a = c.args in
-    (keys-exact a.profile a.target.now a.keys.now a.source.now a.span a.names a.depth c.requires, c.requires.low, c.requires.high)
+    keys-exact a.profile a.target.now a.keys.now a.source.now a.span a.names a.depth c.requires
 
 pub offset_bounds-source-from : goal.offset_bounds-source-from
 offset_bounds-source-from c =
@@ -28,19 +28,19 @@ slice_bounds-put_in-end c =
 pub put_in-requires : goal.put_in-requires
 put_in-requires c =
     let a = c.args in
-    inputs-ready a.profile a.target.now a.keys.now a.source.now a.span a.names a.depth c.requires (slice-words _ c.shared_slice_known-1.given) (slice-words _ c.shared_slice_known-3-1.given) (omega (arith, c.well_formed)) c.in-Some.f
+    inputs-ready a.profile a.target.now a.keys.now a.source.now a.span a.names a.depth c.requires (slice-words _ c.type_inv.target) (slice-words _ c.type_inv.source) (omega (arith, c.well_formed)) c.in-Some.f
     (sym c.parent_row.ensures.answer ∙ c.in-Some.is) (inside-at _ _ _ c.in-Some.is c.parent_row.ensures.inside)
 
-pub returns-in-Some : goal.returns-in-Some
-returns-in-Some c =
+pub returns : goal.returns
+returns c =
     let a = c.args in
     let e = sym c.parent_row.ensures.answer ∙ c.in-Some.is in
-    let m = inputs-moved a.profile a.target.now a.keys.now a.source.now a.span a.names a.depth c.requires (slice-words _ c.shared_slice_known-1.given) (slice-words _ c.shared_slice_known-3-1.given) (omega (arith, c.well_formed)) c.in-Some.f
+    let m = inputs-moved a.profile a.target.now a.keys.now a.source.now a.span a.names a.depth c.requires (slice-words _ c.type_inv.target) (slice-words _ c.type_inv.source) (omega (arith, c.well_formed)) c.in-Some.f
     e (inside-at _ _ _ c.in-Some.is c.parent_row.ensures.inside) in
     carried-out a.profile a.target.now a.source.now a.names a.depth a.res.now _ _ _ (parent-there a.profile a.target.now a.keys.now a.source.now a.span a.names a.depth c.requires _ e) m c.put_in.ensures
 
-pub returns-in-None : goal.returns-in-None
-returns-in-None c =
+pub returns-in_default : goal.returns-in_default
+returns-in_default c =
     let a = c.args in
     no-parent a.profile a.target.now a.source.now a.names a.depth a.res.now
-    (parent-gone a.profile a.target.now a.keys.now a.source.now a.span a.names a.depth c.requires (sym c.parent_row.ensures.answer ∙ c.in-None.is))
+    (parent-gone a.profile a.target.now a.keys.now a.source.now a.span a.names a.depth c.requires (sym c.parent_row.ensures.answer ∙ c.in_default.is))

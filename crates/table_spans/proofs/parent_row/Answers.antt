@@ -9,21 +9,21 @@ use Rattle.table_moved.proofs.Lookup.{slice-words, folder-found, file-found, non
 use Rattle.table_spans.proofs.parent_row.Goals as goal
 
 pub lookup-requires : goal.lookup-requires
-lookup-requires c = (passed-some Exact c.args.t.now c.requires.0, search rules)
+lookup-requires c = passed-some Exact c.args.t.now c.requires
+
+pub returns-in_err-i : goal.returns-in_err-i
+returns-in_err-i c =
+    rw c.from_residual.ensures (none_found c.args.t.now c.requires (slice-words _ c.type_inv.t) _ _ c.lookup.ensures c.in_err-i.was)
 
 pub word-requires : goal.word-requires
 word-requires c =
-    let h = inside-at _ _ _ c.in-Some.is c.lookup.ensures.inside in
+    let h = inside-at _ _ _ c.in_ok-i.was c.lookup.ensures.inside in
     (omega arith, search rules)
 
 pub returns-then-word-eq0 : goal.returns-then-word-eq0
 returns-then-word-eq0 c =
-    folder-found c.args.t.now c.requires.0 (slice-words _ c.shared_slice_known-1.given) _ _ c.lookup.ensures _ c.in-Some.is (sym c.word.ensures ∙ c.if-word-eq0.true)
+    folder-found c.args.t.now c.requires (slice-words _ c.type_inv.t) _ _ c.lookup.ensures _ c.in_ok-i.was (sym c.word.ensures ∙ c.if-word-eq0.true)
 
-pub returns-else-word-eq0 : goal.returns-else-word-eq0
-returns-else-word-eq0 c =
-    file-found c.args.t.now c.requires.0 (slice-words _ c.shared_slice_known-1.given) _ _ c.lookup.ensures _ c.in-Some.is (λ z. c.if-word-eq0.false (c.word.ensures ∙ z))
-
-pub returns-in-None : goal.returns-in-None
-returns-in-None c =
-    none_found c.args.t.now c.requires.0 (slice-words _ c.shared_slice_known-1.given) _ _ c.lookup.ensures c.in-None.is
+pub returns : goal.returns
+returns c =
+    file-found c.args.t.now c.requires (slice-words _ c.type_inv.t) _ _ c.lookup.ensures _ c.in_ok-i.was (λ z. c.if-word-eq0.false (c.word.ensures ∙ z))

@@ -1,11 +1,6 @@
 -- `try_sample::fill` is safe: every row that it fills is within the table.
-use mathlib.Core.Path.{◌≡◌}
-use lib.ListN.{length}
-use Prim.Native.Nat.{◌-◌, ◌≤◌}
+use Rattle.std.proofs.Common.{length, ◌≤◌}
 use Rattle.try_sample.proofs.fill.Given as goal
 
-abbrev pub invariant-loop-at : goal.invariant-loop-at
-invariant-loop-at l = (l.words ≤ length l.table) × (length l.table ≡ length l.initial.table)
-
-abbrev pub decreases-loop-at : goal.decreases-loop-at
-decreases-loop-at l = length l.line - l.at
+abbrev pub invariant-loop-depth : goal.invariant-loop-depth
+invariant-loop-depth l = l.words ≤ length l.table

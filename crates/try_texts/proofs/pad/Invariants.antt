@@ -1,8 +1,6 @@
-use Rattle.std.proofs.Common.{length, ◌-◌, ◌≡◌, ◌≤◌}
+-- `try_texts::pad` is safe: what is put is within the text.
+use Rattle.std.proofs.Common.{length, ◌≤◌}
 use Rattle.try_texts.proofs.pad.Given as goal
 
-abbrev pub invariant-loop-i : goal.invariant-loop-i
-invariant-loop-i l = (l.end ≤ length l.text) × (length l.text ≡ length l.initial.text)
-
-abbrev pub decreases-loop-i : goal.decreases-loop-i
-decreases-loop-i l = l.to - l.i
+abbrev pub invariant-loop : goal.invariant-loop
+invariant-loop l = l.end ≤ length l.text

@@ -1,9 +1,0 @@
--- `try_fields::field` is safe: it ends at the field.
-use Prim.Native.Nat.{◌-◌, ◌≤◌}
-use Rattle.try_fields.proofs.field.Given as goal
-
-abbrev pub invariant-loop-i : goal.invariant-loop-i
-invariant-loop-i l = l.i ≤ l.k
-
-abbrev pub decreases-loop-i : goal.decreases-loop-i
-decreases-loop-i l = l.k - l.i
