@@ -17,7 +17,7 @@ pub fn room(line: &[u8], k: usize, most: usize) -> usize
 }
 
 // What a run made; nothing where it is refused.
-pub fn counts(answer: Reconciled) -> Counts {
+fn counts(answer: Reconciled) -> Counts {
     let none = Counts {
         archive: 0,
         left: 0,
@@ -27,8 +27,8 @@ pub fn counts(answer: Reconciled) -> Counts {
     answer.unwrap_or(none)
 }
 
-// What was answered, and the tally.
-pub fn print_ran(rt: &impl Print, ran: Ran) -> io::Result<()> {
+// What was answered, and the tally. It hands back what the run made.
+pub fn print_ran(rt: &impl Print, ran: Ran) -> io::Result<Counts> {
     if let Err(refusal) = ran.answer {
         try_show::print_number(rt, refusal.number as usize)?;
         try_show::print_number(rt, refusal.side as usize)?;
@@ -46,7 +46,8 @@ pub fn print_ran(rt: &impl Print, ran: Ran) -> io::Result<()> {
     try_show::print(rt, b" tally")?;
     try_show::print_number(rt, t.left as usize)?;
     try_show::print_number(rt, t.right as usize)?;
-    try_show::print_number(rt, t.clash as usize)
+    try_show::print_number(rt, t.clash as usize)?;
+    Ok(made)
 }
 
 // Each of some words.

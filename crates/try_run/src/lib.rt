@@ -38,8 +38,7 @@ pub fn tell_run(
             clash: 9,
         },
     );
-    let n = try_ran::counts(ran.answer);
-    try_ran::print_ran(rt, ran)?;
+    let n = try_ran::print_ran(rt, ran)?;
     try_ran::print_list(rt, list, n.list)?;
     Ok(n)
 }
