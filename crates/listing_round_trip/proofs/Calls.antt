@@ -1,4 +1,5 @@
 -- The round trip over calls: an accepted table passes and is its tree's, and the bytes written are that tree's text.
+use Rattle.std.proofs.Common.{Ok, Err}
 use mathlib.Core.Path.{◌≡◌, refl, sym, ap, ◌∙◌}
 use mathlib.Core.List.{List, [], ◌∷◌}
 use mathlib.Core.Bool.{Bool, true, false, cond}
@@ -14,9 +15,7 @@ use Rattle.tree.proofs.Never.{never}
 use Rattle.tree.proofs.Same.{and-true}
 use Rattle.table_row.specs.Buffer.{over}
 use Rattle.table_row.specs.Tree.{tree_of}
-use Rattle.table_rules.specs.declared.Answer.{Answer}
-use Rattle.table_rules.specs.declared.Answer.TheVariants.{Accepted, Refused}
-use Rattle.table_rules.specs.Answer.{is_accepted, place_of}
+use Rattle.table_rules.specs.Answer.{is_accepted, place_of, Answer, refusal}
 use Rattle.table_rules.specs.Contract.{check_due}
 use Rattle.table_rules.specs.Keyed.{Passes}
 use Rattle.table_rules.proofs.Faults.{first-both, first-last}
@@ -34,12 +33,12 @@ use Rattle.listing_round_trip.proofs.Tables.{table-back}
 record Due (p : Profile) (w : List ℕ) (room : ℕ) : Type 0 where
   passes : Passes p w
   long : length (text_of (tree_of w)) ≤ 65536
-  answer : answer_due p w room ≡ Accepted (length (text_of (tree_of w)))
+  answer : answer_due p w room ≡ Ok (length (text_of (tree_of w)))
 
 fit : (s : List ℕ) (room : ℕ) → is_accepted (text_due s room) ≡ true → fits (length s) room ≡ true
 fit s room h = go (fits (length s) room) h
   where
-    go : (t : Bool) → is_accepted (cond t (Accepted (length s)) (Refused 3 1 0)) ≡ true → t ≡ true
+    go : (t : Bool) → is_accepted (cond t (Ok (length s)) (Err (refusal 3 1 0))) ≡ true → t ≡ true
     go true h = refl
     go false h = never (cc)
 
@@ -80,6 +79,6 @@ calls-round-trip p w d answer text small C taken b back after R room =
     let says = rw e at R.says in
     let rows = passed_length p w P in
     record {
-      rows = says-one back (Accepted _) says (record { number-due = refl; side-due = refl; place-due = omega arith; accepted = refl });
+      rows = says-one back (Ok _) says (record { number-due = refl; side-due = refl; place-due = omega arith; accepted = refl });
       table = (rw e at R.table) ∙ rw (passed-table p w P);
     }
