@@ -82,12 +82,5 @@ fn by_end(c: Class, lf: Mode, back: Mode, other: Mode) -> Mode
 pub fn ended(m: Mode) -> bool
     ensures { result ≡ is_done m }
 {
-    match m {
-        Mode::Lead => false,
-        Mode::LeadBack => false,
-        Mode::Body => false,
-        Mode::BodyBack => false,
-        Mode::Comment => false,
-        Mode::Done => true,
-    }
+    matches!(m, Mode::Done)
 }

@@ -1,33 +1,40 @@
--- What is handed back of a line's type, and of what its entry holds.
-use Rattle.std.specs.Prelude.{◌≡◌, List, length, replicate, ℕ}
+-- What is handed back of a line's type, and of what its entry holds: a value, or the number that is due.
+use Rattle.std.specs.Prelude.{List, replicate, ℕ, Option, Some, None, Result, Ok, Err}
 use Rattle.tree.specs.Forest.{Node.absent, Node.file, Node.folder}
 use Rattle.listing.specs.Entries.{Said, Said.none, Said.is_dir, Said.is_file, Said.is_other, Said.twice, Entry, Entry.faulty, Entry.holds}
-use Rattle.listing_keywords.specs.declared.Said.{Said as SaidCode}
-use Rattle.listing_keywords.specs.declared.Said.TheVariants.{Unsaid, Dir, File, Other, Twice}
-use Rattle.listing_keywords.specs.declared.Held.{Held}
+use Rattle.listing_keywords.specs.declared.Kind.{Kind}
+use Rattle.listing_keywords.specs.declared.Kind.TheVariants.{Dir, File}
 
--- the type that a code stands for
-abbrev pub said_of : SaidCode → Said
-said_of Unsaid = none
-said_of Dir = is_dir
-said_of File = is_file
-said_of Other = is_other
-said_of Twice = twice
+-- the type that a default stands for
+abbrev pub said_of : Option Kind → Said
+said_of None = none
+said_of (Some Dir) = is_dir
+said_of (Some File) = is_file
 
--- the fault's number, 0 where there is none
-abbrev pub number_of : Entry → ℕ
-number_of (faulty k) = k
-number_of (holds x) = 0
+-- a type, if there is one: a bad one is 10, a doubled one 9
+abbrev pub type_due : Said → Result (Option Kind) ℕ
+type_due none = Ok None
+type_due is_dir = Ok (Some Dir)
+type_due is_file = Ok (Some File)
+type_due is_other = Err 10
+type_due twice = Err 9
 
--- a file's content; all zero for a folder, and for a fault
-abbrev pub words_of : Entry → List ℕ
-words_of (faulty k) = replicate 11 0
-words_of (holds absent) = replicate 11 0
-words_of (holds (file c)) = c
-words_of (holds (folder k)) = replicate 11 0
+-- a type that is said
+abbrev pub kind_due : Said → Result Kind ℕ
+kind_due none = Err 10
+kind_due is_dir = Ok Dir
+kind_due is_file = Ok File
+kind_due is_other = Err 10
+kind_due twice = Err 9
 
--- an entry's number and its eleven words
-pub record IsEntry (x : Entry) (r : Held) : Type 0 where
-  pub number : r.number ≡ number_of x
-  pub words : r.words ≡ words_of x
-  pub long : length r.words ≡ 11
+-- an entry's eleven words: a file's content, all zero for a folder
+abbrev pub held_of : Entry → Result (List ℕ) ℕ
+held_of (faulty k) = Err k
+held_of (holds absent) = Ok (replicate 11 0)
+held_of (holds (file c)) = Ok c
+held_of (holds (folder k)) = Ok (replicate 11 0)
+
+-- whether a line is the root's
+abbrev pub root_due : Entry → Result (Unit {0}) ℕ
+root_due (faulty k) = Err k
+root_due (holds x) = Ok tt

@@ -1,9 +1,11 @@
 -- What a search for keywords among a line's words hands back.
-use Rattle.std.specs.Prelude.{◌≡◌, List, [], ◌∷◌, cond, eqb, length, take, drop, ℕ, ◌-◌, ◌≤◌}
+use Rattle.std.specs.Prelude.{◌≡◌, List, [], ◌∷◌, cond, length, take, drop, ℕ, ◌-◌, ◌≤◌}
+use Rattle.std.specs.Borrow.{Bor}
 use Rattle.tree.specs.Same.{same_words}
 use Rattle.listing.specs.Bytes.{text}
 use Rattle.listing.specs.Words.{Words, values}
 use Rattle.listing_keywords.specs.declared.Hit.{Hit}
+use Rattle.listing_keywords.specs.declared.Hit.TheVariants.{Never, Once, More}
 use Rattle.listing_keywords.specs.declared.Hits.{Hits}
 
 -- the bytes from a to e
@@ -26,11 +28,18 @@ pub record Within (l : List ℕ) (a e : ℕ) : Type 0 where
   pub low : a ≤ e
   pub high : e ≤ length l
 
--- how often a keyword is said, and its first value
-pub record Found (l : List ℕ) (vs : Words) (r : Hit) : Type 0 where
-  pub within : Within l r.start r.end
-  pub count : r.count ≡ times vs
-  pub value : part l r.start r.end ≡ first vs
+-- bytes that stand in the line
+pub record Stands (l v : List ℕ) : Type 0 where
+  pub start : ℕ
+  pub end : ℕ
+  pub within : Within l start end
+  pub is : v ≡ part l start end
+
+-- how often a keyword is said, and its first value, which stands in the line
+abbrev pub Found : List ℕ → Words → Hit → Type 0
+Found l vs Never = times vs ≡ 0
+Found l vs (Once v) = (times vs ≡ 1) × (v.now ≡ first vs) × Stands l v.now
+Found l vs (More v) = (times vs ≡ 2) × (v.now ≡ first vs) × Stands l v.now
 
 -- the same of each of the three keywords, among words
 pub record AllFound (l : List ℕ) (ws : Words) (r : Hits) : Type 0 where
@@ -38,20 +47,21 @@ pub record AllFound (l : List ℕ) (ws : Words) (r : Hits) : Type 0 where
   pub size : Found l (values (text "size") ws) r.size
   pub digest : Found l (values (text "sha256digest") ws) r.digest
 
--- after a value more, from a to e
-abbrev pub seen_after : Hit → ℕ → ℕ → Hit
-seen_after h a e =
-    cond (eqb h.count 0) (record { count = 1; start = a; end = e }) (record { count = 2; start = h.start; end = h.end })
+-- after a value more
+abbrev pub seen_after : Hit → Bor (List ℕ) → Hit
+seen_after Never v = Once v
+seen_after (Once u) v = More u
+seen_after (More u) v = More u
 
--- after a word more, whose keyword is key and whose value is from a to e, for the keyword name
-abbrev pub hit_after : List ℕ → List ℕ → Hit → ℕ → ℕ → Hit
-hit_after name key h a e = cond (same_words key name) (seen_after h a e) h
+-- after a word more, whose keyword is key and whose value is v, for the keyword name
+abbrev pub hit_after : List ℕ → List ℕ → Hit → Bor (List ℕ) → Hit
+hit_after name key h v = cond (same_words key name) (seen_after h v) h
 
 -- the same for each of the three
-abbrev pub noted_after : Hits → List ℕ → ℕ → ℕ → Hits
-noted_after h key a e =
+abbrev pub noted_after : Hits → List ℕ → Bor (List ℕ) → Hits
+noted_after h key v =
     record {
-      kind = hit_after (text "type") key h.kind a e;
-      size = hit_after (text "size") key h.size a e;
-      digest = hit_after (text "sha256digest") key h.digest a e;
+      kind = hit_after (text "type") key h.kind v;
+      size = hit_after (text "size") key h.size v;
+      digest = hit_after (text "sha256digest") key h.digest v;
     }

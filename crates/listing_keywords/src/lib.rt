@@ -1,142 +1,114 @@
-// A keyword among the words of a line: how often it is there, its value, and the line's type.
+// The keywords among the words of a line: how often each is there, its first value, and the line's type.
 #![tactic(auto)]
 
-ghost use Rattle.std.specs.Prelude.{◌≡◌, ◌≤◌, length, drop};
+ghost use Rattle.std.specs.Prelude.{◌≡◌, List, ℕ};
 ghost use Rattle.listing.specs.Words.{Words, words, values};
 ghost use Rattle.listing.specs.Reading.{is_empty};
 ghost use Rattle.listing.specs.Entries.{type_of, one_type, type_in};
-ghost use Rattle.listing_keywords.specs.Found.{seen_after, noted_after, Within, Found, AllFound};
-ghost use Rattle.listing_keywords.specs.Entries.{said_of};
+ghost use Rattle.listing_keywords.specs.Found.{seen_after, noted_after, Found, AllFound};
+ghost use Rattle.listing_keywords.specs.Entries.{said_of, kind_due, type_due};
 
-// No word with a keyword, one, or 2 for more, and the place of the first one's value.
+// What an entry is, by its type.
 #[derive(Clone, Copy)]
-pub struct Hit {
-    pub count: usize,
-    pub start: usize,
-    pub end: usize,
+pub enum Kind {
+    Dir,
+    File,
+}
+
+// No word with a keyword, one, or more, and the first one's value.
+#[derive(Clone, Copy)]
+pub enum Hit<'a> {
+    Never,
+    Once(&'a [u8]),
+    More(&'a [u8]),
 }
 
 // What a line says for the three keywords that an entry's content is told by.
 #[derive(Clone, Copy)]
-pub struct Hits {
-    pub kind: Hit,
-    pub size: Hit,
-    pub digest: Hit,
+pub struct Hits<'a> {
+    pub kind: Hit<'a>,
+    pub size: Hit<'a>,
+    pub digest: Hit<'a>,
 }
 
-// A line's type: not said and no default, dir, file, a value that is neither, or type twice.
-#[derive(Clone, Copy)]
-pub enum Said {
-    Unsaid,
-    Dir,
-    File,
-    Other,
-    Twice,
-}
-
-// A fault's number, or 0 and a content: kind, size, digest; all zero for a folder.
-#[derive(Clone, Copy)]
-pub struct Held {
-    pub number: u32,
-    pub words: [u32; 11],
-}
-
-// A word more with a keyword, whose value stands from start to end.
-fn seen(h: Hit, start: usize, end: usize) -> Hit
-    ensures { result ≡ seen_after h start end }
+// A word more with a keyword, of that value.
+fn seen<'a>(h: Hit<'a>, value: &'a [u8]) -> Hit<'a>
+    ensures { result ≡ seen_after h.entry value.entry }
 {
-    if h.count == 0 {
-        return Hit {
-            count: 1,
-            start,
-            end,
-        };
-    }
-    Hit {
-        count: 2,
-        start: h.start,
-        end: h.end,
+    match h {
+        Hit::Never => Hit::Once(value),
+        Hit::Once(first) => Hit::More(first),
+        Hit::More(first) => Hit::More(first),
     }
 }
 
 // A word more, with the keyword key: the one of the three that it is, if it is one.
-fn noted(h: Hits, key: &[u8], start: usize, end: usize) -> Hits
-    ensures { result ≡ noted_after h key.now start end }
+fn noted<'a>(h: Hits<'a>, key: &[u8], value: &'a [u8]) -> Hits<'a>
+    ensures { result ≡ noted_after h.entry key.now value.entry }
 {
-    let kind = h.kind;
-    let size = h.size;
-    let digest = h.digest;
     if key.len() == 4 {
         if listing_words::same_bytes(key, b"type") {
             return Hits {
-                kind: seen(kind, start, end),
-                size,
-                digest,
+                kind: seen(h.kind, value),
+                ..h
             };
         }
         if listing_words::same_bytes(key, b"size") {
             return Hits {
-                kind,
-                size: seen(size, start, end),
-                digest,
+                size: seen(h.size, value),
+                ..h
             };
         }
         return h;
     }
     if listing_words::same_bytes(key, b"sha256digest") {
         return Hits {
-            kind,
-            size,
-            digest: seen(digest, start, end),
+            digest: seen(h.digest, value),
+            ..h
         };
     }
     h
 }
 
-// How often each of the three keywords is said, and where its first value stands.
-pub fn find_keys(line: &[u8], from: usize) -> Hits
-    requires { from ≤ length line.now }
-    ensures { AllFound line.now (words (drop from line.now)) result }
+// How often each of the three keywords is said in what is left of a line, and its first value.
+pub fn find_keys<'a>(rest: &'a [u8]) -> Hits<'a>
+    ensures { AllFound rest.now (words rest.now) result }
 {
-    let none = Hit {
-        count: 0,
-        start: 0,
-        end: 0,
-    };
     let mut h = Hits {
-        kind: none,
-        size: none,
-        digest: none,
+        kind: Hit::Never,
+        size: Hit::Never,
+        digest: Hit::Never,
     };
-    let mut i = from;
-    while i < line.len() {
-        let a = listing_words::skip_blanks(line, i);
-        if line.len() <= a {
+    let mut i = 0;
+    // A `while`, since a step is a word.
+    while i < rest.len() {
+        let a = listing_words::skip_blanks(rest, i);
+        if rest.len() <= a {
             return h;
         }
-        let e = listing_words::word_end(line, a);
-        let k = listing_values::key_end(&line[a..e]);
-        let m = a + k;
-        let v = if m < e { m + 1 } else { m };
-        h = noted(h, &line[a..m], v, e);
+        let e = listing_words::word_end(rest, a);
+        let word = &rest[a..e];
+        let k = listing_values::key_end(word);
+        let v = if k < word.len() { k + 1 } else { k };
+        h = noted(h, &word[..k], &word[v..]);
         i = e;
     }
     h
 }
 
 // No word has the keyword.
-pub fn lacks(line: &[u8], from: usize, key: &[u8]) -> bool
-    requires { from ≤ length line.now }
-    ensures { result ≡ is_empty (values key.now (words (drop from line.now))) }
+pub fn lacks(rest: &[u8], key: &[u8]) -> bool
+    ensures { result ≡ is_empty (values key.now (words rest.now)) }
 {
-    let mut i = from;
-    while i < line.len() {
-        let a = listing_words::skip_blanks(line, i);
-        if line.len() <= a {
+    let mut i = 0;
+    // A `while`, since a step is a word.
+    while i < rest.len() {
+        let a = listing_words::skip_blanks(rest, i);
+        if rest.len() <= a {
             return true;
         }
-        let e = listing_words::word_end(line, a);
-        if listing_values::has_key(&line[a..e], key) {
+        let e = listing_words::word_end(rest, a);
+        if listing_values::has_key(&rest[a..e], key) {
             return false;
         }
         i = e;
@@ -145,52 +117,39 @@ pub fn lacks(line: &[u8], from: usize, key: &[u8]) -> bool
 }
 
 // No word is left.
-pub fn no_more(line: &[u8], from: usize) -> bool
-    requires { from ≤ length line.now }
-    ensures { result ≡ is_empty (words (drop from line.now)) }
+pub fn no_more(rest: &[u8]) -> bool
+    ensures { result ≡ is_empty (words rest.now) }
 {
-    let a = listing_words::skip_blanks(line, from);
-    if line.len() <= a {
-        return true;
-    }
-    false
+    rest.len() <= listing_words::skip_blanks(rest, 0)
 }
 
-// The value of type.
-fn type_of(value: &[u8]) -> Said
-    ensures { said_of result ≡ type_of value.now }
+// The value of type: 10 for one that is not known.
+fn type_of(value: &[u8]) -> Result<Kind, u32>
+    ensures { result ≡ kind_due (type_of value.now) }
 {
     if listing_words::same_bytes(value, b"dir") {
-        return Said::Dir;
+        return Ok(Kind::Dir);
     }
     if listing_words::same_bytes(value, b"file") {
-        return Said::File;
+        return Ok(Kind::File);
     }
-    Said::Other
+    Err(10)
 }
 
-// A line's type, by what was found of the values of type and by the default.
-pub fn type_by(line: &[u8], h: Hit, default: Said) -> Said
-    requires { Within line.now h.start h.end }
-    ensures { (vs : Words) → Found line.now vs h → said_of result ≡ one_type (said_of default) vs }
+// A line's type, by what was found of the values of type and by the default: 10 for one that is not known, 9 for two.
+pub fn type_by(h: Hit<'_>, default: Option<Kind>) -> Result<Option<Kind>, u32>
+    ensures { (l : List ℕ) (vs : Words) → Found l vs h.entry → result ≡ type_due (one_type (said_of default) vs) }
 {
-    let start = h.start;
-    let end = h.end;
-    if h.count == 0 {
-        return default;
+    match h {
+        Hit::Never => Ok(default),
+        Hit::Once(value) => Ok(Some(type_of(value)?)),
+        Hit::More(_) => Err(9),
     }
-    if h.count == 1 {
-        return type_of(&line[start..end]);
-    }
-    Said::Twice
 }
 
-// A line's type, by its words and the default.
-pub fn type_in(line: &[u8], from: usize, default: Said) -> Said
-    requires { from ≤ length line.now }
-    ensures { said_of result ≡ type_in (said_of default) (words (drop from line.now)) }
+// A line's type, by the words that are left of it and the default.
+pub fn type_in(rest: &[u8], default: Option<Kind>) -> Result<Option<Kind>, u32>
+    ensures { result ≡ type_due (type_in (said_of default) (words rest.now)) }
 {
-    let h = find_keys(line, from);
-    let kind = h.kind;
-    type_by(line, kind, default)
+    type_by(find_keys(rest).kind, default)
 }

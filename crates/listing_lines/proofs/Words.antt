@@ -12,19 +12,19 @@ use Rattle.tree.specs.declared.Profile.{Profile}
 use Rattle.listing.specs.Words.{Words, is_text, span, words}
 use Rattle.listing.specs.Reading.{State, Step, Step.goes, Step.stops, line_does, root_line, words_do}
 use Rattle.listing_reader.specs.declared.Reader.{Reader}
-use Rattle.listing_reader.specs.declared.Went.{Went}
+use Rattle.std.specs.Prelude.{Result}
 use Rattle.listing_scan.specs.Places.{skip}
 use Rattle.listing_scan.proofs.Next.{words-next, words-none}
 use Rattle.listing_lines.specs.Takes.{Alters, Roots, Takes, first_does}
 
-pub takes-as : {p : Profile} {f g : ℕ → State → Step} {w : List ℕ} {s : Reader} {after : List ℕ} {r : Went} → ((most : ℕ) (t : State) → f most t ≡ g most t)
+pub takes-as : {p : Profile} {f g : ℕ → State → Step} {w : List ℕ} {s : Reader} {after : List ℕ} {r : Result Reader ℕ} → ((most : ℕ) (t : State) → f most t ≡ g most t)
     → Takes p g w s after r → Takes p f w s after r
 takes-as e a = record { does = λ t g h. rw (e _ t) (a.does t g h) }
 
-pub takes-alters : {p : Profile} {g : State → Step} (w : List ℕ) {s : Reader} {r : Went} → Alters g s r → Takes p (λ most. g) w s w r
+pub takes-alters : {p : Profile} {g : State → Step} (w : List ℕ) {s : Reader} {r : Result Reader ℕ} → Alters g s r → Takes p (λ most. g) w s w r
 takes-alters {p} w a = record { does = λ t g h. a.does p _ w t g h }
 
-pub takes-root : {p : Profile} (ws : Words) (w : List ℕ) {s : Reader} {r : Went} → Roots ws (length w) s r → Takes p (λ most. root_line most ws) w s w r
+pub takes-root : {p : Profile} (ws : Words) (w : List ℕ) {s : Reader} {r : Result Reader ℕ} → Roots ws (length w) s r → Takes p (λ most. root_line most ws) w s w r
 takes-root {p} ws w a = record { does = λ t g h. a.does p w t refl h }
 
 pub first_byte : (l : List ℕ) (a e : ℕ) → a < e → get_or (take (e - a) (drop a l)) 0 0 ≡ get_or l a 0

@@ -1,20 +1,18 @@
--- What reading a name hands back: whether it is good, and if so its words.
-use Rattle.std.specs.Prelude.{◌≡◌, List, Bool, true, not, ◌&&◌, leb, length, ℕ}
+-- What reading a name hands back: its bytes or its words, if it is good.
+use Rattle.std.specs.Prelude.{◌≡◌, List, Bool, true, false, not, ◌&&◌, leb, length, ℕ, Option, Some, None}
 use Rattle.listing.specs.Bytes.{among}
 use Rattle.listing.specs.Names.{decode, packed, name_of, is_name}
-use Rattle.listing_names.specs.declared.Spelt.{Spelt}
-use Rattle.listing_names.specs.declared.Told.{Told}
 
 -- no bad spot, and at most 32 bytes
 unfoldable pub fits : List ℕ → Bool
 fits w = not (among 0 (decode w)) && leb (length (decode w)) 32
 
 -- the bytes that a word spells, as far as a name's words tell
-pub record IsSpelt (w : List ℕ) (r : Spelt) : Type 0 where
-  pub told : r.good ≡ fits w
-  pub words : r.good ≡ true → packed r.bytes ≡ name_of w
+abbrev pub IsSpelt : List ℕ → Option (List ℕ) → Type 0
+IsSpelt w (Some b) = (fits w ≡ true) × (packed b ≡ name_of w)
+IsSpelt w None = fits w ≡ false
 
 -- the name that a word spells
-pub record IsName (w : List ℕ) (r : Told) : Type 0 where
-  pub told : r.good ≡ is_name w
-  pub words : r.good ≡ true → r.words ≡ name_of w
+abbrev pub IsName : List ℕ → Option (List ℕ) → Type 0
+IsName w (Some n) = (is_name w ≡ true) × (n ≡ name_of w)
+IsName w None = is_name w ≡ false

@@ -6,27 +6,6 @@ ghost use Rattle.listing.specs.Bytes.{class_of, digit_value, Digit};
 ghost use Rattle.listing.specs.Names.{octal as octal_of, spelt_as, quad as quad_of, packed};
 ghost use Rattle.listing_names.specs.Names.{IsSpelt, IsName};
 
-// Up to 32 bytes, zero filled, and whether they are all that was spelt.
-#[derive(Clone, Copy)]
-pub struct Spelt {
-    pub good: bool,
-    pub bytes: [u8; 32],
-}
-
-// Eight words, and whether they are said.
-#[derive(Clone, Copy)]
-pub struct Told {
-    pub good: bool,
-    pub words: [u32; 8],
-}
-
-// A byte as a word.
-fn wide(b: u8) -> u32
-    ensures { (result ≡ b) × (result < 256) }
-{
-    b as u32
-}
-
 // The value of the digit at place i, 16 where there is none.
 fn digit_at(word: &[u8], i: usize) -> u8
     ensures { Digit (get_or word.now i 0) result }
@@ -86,20 +65,21 @@ fn byte_at(word: &[u8], i: usize) -> u8
     }
 }
 
-// The bytes that a word spells.
-fn unescape(word: &[u8]) -> Spelt
+// The bytes that a word spells, up to 32 and zero filled.
+fn unescape(word: &[u8]) -> Option<[u8; 32]>
     ensures { IsSpelt word.now result }
 {
     let mut bytes = [0u8; 32];
     let mut n: usize = 0;
     let mut i: usize = 0;
+    // A `while`, since an escape is a step of four bytes.
     while i < word.len() {
         let b = byte_at(word, i);
         if b == 0 {
-            return Spelt { good: false, bytes };
+            return None;
         }
         if n == 32 {
-            return Spelt { good: false, bytes };
+            return None;
         }
         bytes[n] = b;
         n += 1;
@@ -109,7 +89,7 @@ fn unescape(word: &[u8]) -> Spelt
             i += 1;
         }
     }
-    Spelt { good: true, bytes }
+    Some(bytes)
 }
 
 // Four bytes from place i on as a word.
@@ -117,7 +97,7 @@ fn quad(b: &[u8; 32], i: usize) -> u32
     requires { i + 4 ≤ 32 }
     ensures { result ≡ quad_of b.now i }
 {
-    16777216 * wide(b[i]) + 65536 * wide(b[i + 1]) + 256 * wide(b[i + 2]) + wide(b[i + 3])
+    u32::from_be_bytes([b[i], b[i + 1], b[i + 2], b[i + 3]])
 }
 
 // Bytes as eight words.
@@ -136,16 +116,13 @@ pub fn pack(b: &[u8; 32]) -> [u32; 8]
     ]
 }
 
-// The name that a word spells, and whether it is one that a table may hold.
-pub fn name_of(word: &[u8]) -> Told
+// The name that a word spells, if it is one that a table may hold.
+pub fn name_of(word: &[u8]) -> Option<[u32; 8]>
     ensures { IsName word.now result }
 {
-    let s = unescape(word);
-    let b = s.bytes;
-    let words = pack(&b);
-    if s.good {
-        let good = table_names::good_name(&words);
-        return Told { good, words };
+    let words = pack(&unescape(word)?);
+    if table_names::good_name(&words) {
+        return Some(words);
     }
-    Told { good: false, words }
+    None
 }

@@ -7,7 +7,7 @@ ghost use Rattle.listing.specs.Reading.{most_rows};
 ghost use Rattle.listing_reader.specs.State.{Ready};
 ghost use Rattle.listing_reader.specs.Does.{IsContent, Places};
 
-use listing_reader::{Reader, Went};
+use listing_reader::Reader;
 use tree::Profile;
 
 // A row of that depth, name and content.
@@ -27,41 +27,28 @@ fn row_of(depth: usize, n: [u32; 8], c: [u32; 11]) -> [u32; 20]
 fn has_room(count: usize, words: usize) -> bool
     ensures { result ≡ ltb count (most_rows words) }
 {
-    if 4096 <= count {
-        return false;
-    }
-    count < words / 20
+    count < usize::min(4096, words / 20)
 }
 
 // An entry put into the folder last opened: 14, 13 by key, 3.
-pub fn put_row(profile: Profile, t: &mut [u32], s: Reader, name: [u32; 8], c: [u32; 11]) -> Went
+pub fn put_row(profile: Profile, t: &mut [u32], s: Reader, name: [u32; 8], c: [u32; 11]) -> Result<Reader, u32>
     requires { Ready profile t.old s × (0 < s.depth) × IsContent c }
     ensures { Places profile name c t.old s t.new result }
 {
     let depth = s.depth;
     if depth == 17 {
-        return Went {
-            number: 14,
-            state: s,
-        };
+        return Err(14);
     }
     let k = depth - 1;
     let end = 20 * s.count;
     match table_slot::find_spot(profile, &t[..end], s.folders[k], s.last, name) {
-        table_slot::Spot::Taken => Went {
-            number: 13,
-            state: s,
-        },
-        table_slot::Spot::Free(i) => {
+        None => Err(13),
+        Some(i) => {
             if has_room(s.count, t.len()) {
                 table_slot::insert(t, s.count, i, row_of(depth, name, c));
-                let state = listing_reader::enter(s, i, c[0]);
-                return Went { number: 0, state };
+                return Ok(s.enter(i, c[0]));
             }
-            Went {
-                number: 3,
-                state: s,
-            }
+            Err(3)
         }
     }
 }

@@ -1,13 +1,14 @@
 -- A whole text: its form, then its lines; what is read stays, and a refusal's table is zeroed.
+use Rattle.std.proofs.Common.{Ok, Err}
 use mathlib.Core.Path.{◌≡◌, refl, sym, ap, ◌∙◌}
 use mathlib.Core.List.{List}
 use mathlib.Core.Bool.{true, false, false≢true}
 use lib.ListN.{length, length-replicate}
 use Prim.Native.Nat.{ℕ}
 use Rattle.tree.specs.declared.Profile.{Profile}
-use Rattle.table_rules.specs.declared.Answer.{Answer}
-use Rattle.table_rules.specs.declared.Answer.TheVariants.{Accepted, Refused}
-use Rattle.table_rules.specs.Answer.{is_accepted}
+use Rattle.std.specs.Prelude.{is_err}
+use Rattle.tree.proofs.Never.{never}
+use Rattle.table_rules.specs.Answer.{is_accepted, Answer, refusal}
 use Rattle.listing.specs.Lines.{lines}
 use Rattle.listing.specs.Entries.{Said.none}
 use Rattle.listing.specs.Reading.{Outcome, Outcome.refused, Outcome.accepted, State.before, has_form, most_rows, reading, run}
@@ -28,11 +29,19 @@ refused-only : (room : ℕ) (o : Outcome) → false ≡ is_taken o → table_aft
 refused-only room (refused k line) e = refl
 refused-only room (accepted f) e = absurd (false≢true e)
 
+taken : (a : Answer) → is_err a ≡ false → is_accepted a ≡ true
+taken (Ok i) e = refl
+taken (Err r) e = never (cc)
+
+refusing : (a : Answer) → is_err a ≡ true → is_accepted a ≡ false
+refusing (Ok i) e = never (cc)
+refusing (Err r) e = refl
+
 module _ (p : Profile) (t b : List ℕ) where
-  pub read-formless : (after : List ℕ) → has_form t ≡ false → after ≡ zeroed (length b) → ReadContract p t b (Refused 6 0 0) after
+  pub read-formless : (after : List ℕ) → has_form t ≡ false → after ≡ zeroed (length b) → ReadContract p t b (Err (refusal 6 0 0)) after
   unfolding reading
   read-formless after h e =
-      read_by p t b (refused 6 0) (Refused 6 0 0) after (rw h) (record { number-due = refl; side-due = refl; place-due = refl; accepted = refl }) refl e
+      read_by p t b (refused 6 0) (Err (refusal 6 0 0)) after (rw h) (record { number-due = refl; side-due = refl; place-due = refl; accepted = refl }) refl e
 
   -- its lines
   abbrev ran : ℕ → Outcome
@@ -43,10 +52,9 @@ module _ (p : Profile) (t b : List ℕ) where
     unfolding reading
     by_lines = rw (form, same)
 
-    pub read-accepted : (i : ℕ) → a ≡ Accepted i → ReadContract p t b (Accepted i) after
-    read-accepted i e = read_by p t b (ran room) (Accepted i) after by_lines (rw e at r.says) (rw e at r.kind) (rw (← same) (r.table (rw e)))
+    pub read-accepted : is_err a ≡ false → ReadContract p t b a after
+    read-accepted e = read_by p t b (ran room) a after by_lines r.says r.kind (rw (← same) (r.table (taken a e)))
 
-    pub read-refused : (n s i : ℕ) (zeros : List ℕ) → a ≡ Refused n s i → zeros ≡ zeroed (length b) → ReadContract p t b (Refused n s i) zeros
-    read-refused n s i zeros e z =
-        let q = rw e at r.kind in
-        read_by p t b (ran room) (Refused n s i) zeros by_lines (rw e at r.says) q (z ∙ sym (refused-only (length b) (ran room) q))
+    pub read-refused : (zeros : List ℕ) → is_err a ≡ true → zeros ≡ zeroed (length b) → ReadContract p t b a zeros
+    read-refused zeros e z =
+        read_by p t b (ran room) a zeros by_lines r.says r.kind (z ∙ sym (refused-only (length b) (ran room) (sym (refusing a e) ∙ r.kind)))

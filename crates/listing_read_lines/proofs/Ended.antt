@@ -1,4 +1,5 @@
 -- The end of a text: its form, the answer that is due there, and what the table holds then.
+use Rattle.std.proofs.Common.{Ok, Err}
 use mathlib.Core.Path.{◌≡◌, refl, sym, ◌∙◌}
 use mathlib.Core.List.{List, [], ◌∷◌}
 use mathlib.Core.Bool.{true, false}
@@ -7,13 +8,13 @@ use lib.Dec.{eqb}
 use lib.ListN.{length, get_or, take-append-drop}
 use Prim.Native.Nat.{ℕ, zero, suc, ◌*◌, ◌-◌, ◌≤◌, ◌<◌}
 use borrow.Author.Tests.{le-leb, lt-leb}
+use Rattle.table_rules.specs.Answer.{refusal}
 use Rattle.tree.specs.Forest.{Forest}
 use Rattle.tree.specs.Rules.{NameRule, ContentRule, Within}
 use Rattle.tree.specs.declared.Profile.{Profile}
 use Rattle.table_row.specs.Buffer.{over}
 use Rattle.table_row.specs.Tree.{table}
 use Rattle.table_row.proofs.Tree.{length-table}
-use Rattle.table_rules.specs.declared.Answer.TheVariants.{Accepted, Refused}
 use Rattle.listing.specs.Reading.{State, State.before, State.inside, State.closed, ended, has_form}
 use Rattle.listing.specs.Accepted.{GoodState}
 use Rattle.listing_reader.specs.declared.Reader.{Reader}
@@ -40,18 +41,18 @@ pub ruleset form_rules = (form-long, form-empty, form-last)
 
 -- no row means no root
 module _ (s : Reader) where
-  pub ends-rootless : s.count ≡ 0 → Ends s (Refused 12 0 0)
+  pub ends-rootless : s.count ≡ 0 → Ends s (Err (refusal 12 0 0))
   ends-rootless e = record { does = λ p w t h. go p w t h }
     where
-      go : (p : Profile) (w : List ℕ) (t : State) → Reads p w s t → Answers (Refused 12 0 0) (ended t) × (false ≡ is_taken (ended t))
+      go : (p : Profile) (w : List ℕ) (t : State) → Reads p w s t → Answers (Err (refusal 12 0 0)) (ended t) × (false ≡ is_taken (ended t))
       go p w (before d) h = (record { number-due = refl; side-due = refl; place-due = refl; accepted = refl }, refl)
       go p w (inside f q v) h = let c = h.filled.rows in absurd (omega arith)
       go p w (closed f) h = let c = h.filled.rows in absurd (omega arith)
 
-  pub ends-rooted : (s.count ≡ 0 → ⊥) → Ends s (Accepted s.count)
+  pub ends-rooted : (s.count ≡ 0 → ⊥) → Ends s (Ok s.count)
   ends-rooted e = record { does = λ p w t h. go p w t h }
     where
-      go : (p : Profile) (w : List ℕ) (t : State) → Reads p w s t → Answers (Accepted s.count) (ended t) × (true ≡ is_taken (ended t))
+      go : (p : Profile) (w : List ℕ) (t : State) → Reads p w s t → Answers (Ok s.count) (ended t) × (true ≡ is_taken (ended t))
       go p w (before d) h = absurd (e h.rows)
       go p w (inside f q v) h = (record { number-due = refl; side-due = refl; place-due = h.filled.rows; accepted = refl }, refl)
       go p w (closed f) h = (record { number-due = refl; side-due = refl; place-due = h.filled.rows; accepted = refl }, refl)

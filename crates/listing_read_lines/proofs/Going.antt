@@ -1,4 +1,5 @@
 -- The loop over a text's lines: what is left to run from the state so far is what the whole text comes to.
+use Rattle.std.proofs.Common.{Result, Ok, Err}
 use mathlib.Core.Path.{◌≡◌, refl, sym, ◌∙◌}
 use mathlib.Core.List.{List}
 use mathlib.Core.Bool.{false≢true}
@@ -6,8 +7,8 @@ use native.Mathlib.Omega.{arith}
 use lib.ListN.{length, take, drop}
 use Prim.Native.Nat.{ℕ, ◌+◌, ◌-◌, ◌<◌, ◌≤◌}
 use borrow.Author.Tests.{ne_eqb}
+use Rattle.table_rules.specs.Answer.{refusal}
 use Rattle.tree.specs.declared.Profile.{Profile}
-use Rattle.table_rules.specs.declared.Answer.TheVariants.{Refused}
 use Rattle.listing.specs.Lines.{len_in, lines, lines_from}
 use Rattle.listing.specs.declared.Mode.TheVariants.{Lead}
 use Rattle.listing.specs.Words.{is_text, words}
@@ -18,7 +19,6 @@ use Rattle.listing.proofs.Accepted.{good-words}
 use Rattle.listing_scan.specs.Places.{line_ends}
 use Rattle.listing_scan.proofs.Next.{lines_next, lines_none}
 use Rattle.listing_reader.specs.declared.Reader.{Reader}
-use Rattle.listing_reader.specs.declared.Went.{Went}
 use Rattle.listing_reader.specs.State.{zeroed, Reads, Ready}
 use Rattle.listing_reader.specs.Does.{Did, Fresh}
 use Rattle.listing_lines.specs.Takes.{Takes}
@@ -57,30 +57,30 @@ module _ {p : Profile} {text : List ℕ} {room : ℕ} {w : List ℕ} {s : Reader
     turn = g.same ∙ rw (lines_next line text i e at more).parted
 
     -- what the line did
-    module _ (after : List ℕ) (r : Went) (takes : Takes p (λ most. line_does p most part) w s after r) where
+    module _ (after : List ℕ) (r : Result Reader ℕ) (takes : Takes p (λ most. line_does p most part) w s after r) where
       did : Did p step after r
       did = rw g.long at (takes.does g.state (rw g.long g.good) g.reads)
 
       kept : GoodStep p (most_rows room) step
       kept = good-words p (most_rows room) (is_text part) (words part) g.state g.good
 
-      pub stopped : (r.number ≡ 0 → ⊥) → run p (most_rows room) (lines text) (before none) ≡ refused r.number line
-      stopped h = turn ∙ go step did
+      pub stopped : (n : ℕ) → r ≡ Err n → (run p (most_rows room) (lines text) (before none) ≡ refused n line) × (0 < n)
+      stopped n q = rw turn (go step (rw q at did))
         where
-          go : (x : Step) → Did p x after r → on_step x line (λ t. run p (most_rows room) (lines_from (line + line_ends part) 0 (drop e text)) t) ≡ refused r.number line
-          go (stops n) d = rw d.0
-          go (goes t) d = absurd (h d.0)
+          go : (x : Step) → Did p x after (Err n) → (on_step x line (λ t. run p (most_rows room) (lines_from (line + line_ends part) 0 (drop e text)) t) ≡ refused n line) × (0 < n)
+          go (stops m) d = rw d.0 (refl, d.1)
+          go (goes t) d = absurd d
 
-      pub goes_on : r.number ≡ 0 → length after ≡ length w → Going p text room after r.state e (line + line_ends part)
-      goes_on h l = go step did kept turn
+      pub goes_on : (u : Reader) → r ≡ Ok u → length after ≡ length w → Going p text room after u e (line + line_ends part)
+      goes_on u q l = go step (rw q at did) kept turn
         where
-          go : (x : Step) → Did p x after r → GoodStep p (most_rows room) x
+          go : (x : Step) → Did p x after (Ok u) → GoodStep p (most_rows room) x
               → run p (most_rows room) (lines text) (before none) ≡ on_step x line (λ t. run p (most_rows room) (lines_from (line + line_ends part) 0 (drop e text)) t)
-              → Going p text room after r.state e (line + line_ends part)
-          go (stops n) d k q = let z = d.0 in let u = d.1 in absurd (omega arith)
-          go (goes t) d k q = record { long = l ∙ g.long; state = t; reads = d.1; good = k; same = q }
+              → Going p text room after u e (line + line_ends part)
+          go (stops n) d k q = absurd d
+          go (goes t) d k q = record { long = l ∙ g.long; state = t; reads = d; good = k; same = q }
 
 -- a refused line's answer
-pub refused-lines : {o : Outcome} {room n line : ℕ} {after : List ℕ} → o ≡ refused n line → (n ≡ 0 → ⊥) → RanLines o room (Refused n 0 line) after
-refused-lines {n = n} e h =
-    rw e (record { says = record { number-due = refl; side-due = refl; place-due = refl; accepted = sym (ne_eqb n 0 h) }; kind = refl; table = λ z. absurd (false≢true z) })
+pub refused-lines : {o : Outcome} {room n line : ℕ} {after : List ℕ} → (o ≡ refused n line) × (0 < n) → RanLines o room (Err (refusal n 0 line)) after
+refused-lines {n = n} (e, h) =
+    rw e (record { says = record { number-due = refl; side-due = refl; place-due = refl; accepted = sym (ne_eqb n 0 (λ z. omega arith)) }; kind = refl; table = λ z. absurd (false≢true z) })

@@ -2,8 +2,8 @@
 use mathlib.Core.Path.{◌≡◌, sym, ◌∙◌}
 use mathlib.Core.List.{List}
 use Prim.Native.Nat.{ℕ}
+use Rattle.table_rules.specs.Answer.{Answer}
 use Rattle.tree.specs.declared.Profile.{Profile}
-use Rattle.table_rules.specs.declared.Answer.{Answer}
 use Rattle.table_rules.proofs.Says.{says-one}
 use Rattle.listing_read_lines.specs.Contract.{ReadContract}
 

@@ -4,8 +4,7 @@ use Rattle.std.specs.Prelude.{◌≡◌, List, Bool, true, false, length, ℕ}
 use Rattle.tree.specs.declared.Profile.{Profile}
 use Rattle.table_row.specs.Buffer.{over}
 use Rattle.table_row.specs.Tree.{table}
-use Rattle.table_rules.specs.declared.Answer.{Answer}
-use Rattle.table_rules.specs.Answer.{is_accepted, Says}
+use Rattle.table_rules.specs.Answer.{is_accepted, Says, Answer}
 use Rattle.listing.specs.Reading.{State, ended, Outcome, Outcome.refused, Outcome.accepted, answer_of, reading}
 use Rattle.listing_reader.specs.declared.Reader.{Reader}
 use Rattle.listing_reader.specs.State.{zeroed, Reads}

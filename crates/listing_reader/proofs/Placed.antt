@@ -25,7 +25,7 @@ use Rattle.listing.specs.Entries.{Said}
 use Rattle.listing.specs.Reading.{State, State.before, State.inside, State.closed, Step.goes, Step.stops, at_key, is_absent, most_rows, opened, placed}
 use Rattle.listing.specs.Accepted.{GoodState, Inside, IsFolder}
 use Rattle.listing_reader.specs.declared.Reader.{Reader}
-use Rattle.listing_reader.specs.declared.Went.{Went}
+use Rattle.std.specs.Prelude.{Result, Ok, Err}
 use Rattle.listing_reader.specs.State.{Open, Reads, Ready}
 use Rattle.listing_reader.specs.Does.{Did, IsContent, IsContent.of-folder, IsContent.of-file, entered, node_of}
 use Rattle.listing_reader.proofs.Put.{found, here, within, file-in, folder-in}
@@ -115,14 +115,14 @@ there-taken absent j e = never (cc)
 there-taken (file c) j e = refl
 there-taken (folder k) j e = refl
 
-module _ (p : Profile) (w : List ℕ) (s : Reader) (n : Name) (c : Content) (f : Forest) (q : TreePath) (d : Said) (g : Inside p (most_rows (length w)) f q) (h : Open p w s f q d) (after : List ℕ) (r : Went) where
-  abbrev Due : Type 0
-  Due = Did p (placed p (most_rows (length w)) n (node_of c) f q d) after r
+module _ (p : Profile) (w : List ℕ) (s : Reader) (n : Name) (c : Content) (f : Forest) (q : TreePath) (d : Said) (g : Inside p (most_rows (length w)) f q) (h : Open p w s f q d) (after : List ℕ) where
+  abbrev Due : Result Reader ℕ → Type 0
+  Due r = Did p (placed p (most_rows (length w)) n (node_of c) f q d) after r
 
-  pub did-deep : s.depth ≡ 17 → r.number ≡ 14 → Due
-  did-deep z e =
+  pub did-deep : s.depth ≡ 17 → Due (Err 14)
+  did-deep z =
       let u = h.deep in
-      rw (placed-deep p (most_rows (length w)) n (node_of c) f q d (omega arith)) (e, omega arith)
+      rw (placed-deep p (most_rows (length w)) n (node_of c) f q d (omega arith)) (refl, omega arith)
 
   -- not so deep
   module _ (shallow : s.depth ≡ 17 → ⊥) where
@@ -152,9 +152,9 @@ module _ (p : Profile) (w : List ℕ) (s : Reader) (n : Name) (c : Content) (f :
             let i : s.depth - 1 ≡ length q = let z = h.deep in omega arith in
             rw i (found p (most_rows (length w)) w s f q d g h k e n)
 
-    pub did-taken : None ≡ spot → r.number ≡ 13 → Due
-    did-taken t e =
-        rw (placed_by p (most_rows (length w)) n (node_of c) f q d false _ less (there-taken (at F keys) _ (sym (t ∙ spot_is))) refl) (e, omega arith)
+    pub did-taken : None ≡ spot → Due (Err 13)
+    did-taken t =
+        rw (placed_by p (most_rows (length w)) n (node_of c) f q d false _ less (there-taken (at F keys) _ (sym (t ∙ spot_is))) refl) (refl, omega arith)
 
     module _ (i : ℕ) (free : Some i ≡ spot) where
       gone : (at F keys ≡ absent) × (row_in F keys ≡ i)
@@ -165,8 +165,8 @@ module _ (p : Profile) (w : List ℕ) (s : Reader) (n : Name) (c : Content) (f :
       by-room v e =
           placed_by p (most_rows (length w)) n (node_of c) f q d true v less (rw gone.0) (rw (← h.filled.rows) (sym e))
 
-      pub did-full : false ≡ ltb s.count (most_rows (length w)) → r.number ≡ 3 → Due
-      did-full v e = rw (by-room false v) (e, omega arith)
+      pub did-full : false ≡ ltb s.count (most_rows (length w)) → Due (Err 3)
+      did-full v = rw (by-room false v) (refl, omega arith)
 
       -- the row that is put in
       row-long : IsContent c → length n ≡ 8 → length (file_row s.depth n c) ≡ 20
@@ -191,9 +191,9 @@ module _ (p : Profile) (w : List ℕ) (s : Reader) (n : Name) (c : Content) (f :
             (file-in p (most_rows (length w)) w s f q d g h k e n (file c) (s.depth ∷ 1 ∷ (n ++ drop 1 c)) tt refl refl
             (rw h.deep (file-words (suc (length q)) n c ∙ rw u.kind)) l gone.0 fits _ refl refl refl refl refl)
 
-      pub did-put : IsContent c → length n ≡ 8 → true ≡ ltb s.count (most_rows (length w)) → r.number ≡ 0
-          → r.state ≡ entered s i (get_or c 0 0) → after ≡ inserted w (20 * s.count) (20 * i) (file_row s.depth n c) → Due
-      did-put x eight v e a b = rw (by-room true v) (e, rw (a, b) (go (at_key p f q) refl g.here))
+      pub did-put : IsContent c → length n ≡ 8 → true ≡ ltb s.count (most_rows (length w)) 
+          → after ≡ inserted w (20 * s.count) (20 * i) (file_row s.depth n c) → Due (Ok (entered s i (get_or c 0 0)))
+      did-put x eight v b = rw (by-room true v, b) (go (at_key p f q) refl g.here)
         where
           go : (y : Node) → at_key p f q ≡ y → IsFolder y → Reads p (inserted w (20 * s.count) (20 * i) (file_row s.depth n c)) (entered s i (get_or c 0 0))
               (opened n (node_of c) (kids (put_in p (q ++ (n ∷ [])) (node_of c) (folder f))) q d)

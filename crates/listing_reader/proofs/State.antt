@@ -20,8 +20,11 @@ use Rattle.listing.specs.Accepted.{Inside, IsFolder}
 use Rattle.listing.proofs.Kept.{split-last, there-of}
 use Rattle.listing.proofs.Parent.{folder-above}
 use Rattle.table_stands.proofs.Put.{row-entry, at_entry}
+use Rattle.std.specs.Prelude.{Option, None}
+use Rattle.listing_keywords.specs.declared.Kind.{Kind}
+use Rattle.listing_keywords.specs.Entries.{said_of}
 use Rattle.listing_reader.specs.declared.Reader.{Reader}
-use Rattle.listing_reader.specs.State.{zeroed, said, Filled, Waits, Open, Reads}
+use Rattle.listing_reader.specs.State.{zeroed, Filled, Waits, Open, Reads}
 
 map-take : {A B : Type 0} (f : A → B) (n : ℕ) (l : List A) → map f (take n l) ≡ take n (map f l)
 map-take f zero [] = refl
@@ -32,8 +35,8 @@ map-take f (suc n) (x ∷ l) = ap (λ (y : List _). f x ∷ y) (map-take f n l)
 pub all-keys : (p : Profile) (q : TreePath) → take (length q) (fold_path p q) ≡ fold_path p q
 all-keys p q = ap (λ (n : ℕ). take n (fold_path p q)) (sym (length-map q (key p))) ∙ take-length (fold_path p q)
 
-pub set-default : (p : Profile) (w : List ℕ) (s : Reader) (v : ℕ) (r : Reader) (t : State) → r.default ≡ v → r.folders ≡ s.folders → r.depth ≡ s.depth
-    → r.last ≡ s.last → r.count ≡ s.count → Reads p w s t → Reads p w r (with_default (said v) t)
+pub set-default : (p : Profile) (w : List ℕ) (s : Reader) (v : Option Kind) (r : Reader) (t : State) → r.default ≡ v → r.folders ≡ s.folders → r.depth ≡ s.depth
+    → r.last ≡ s.last → r.count ≡ s.count → Reads p w s t → Reads p w r (with_default (said_of v) t)
 set-default p w s v r (before x) a b c d e h =
     record { wide = rw b h.wide; rows = e ∙ h.rows; shut = c ∙ h.shut; default = rw a; empty = h.empty }
 set-default p w s v r (inside f q x) a b c d e h =
@@ -47,8 +50,7 @@ set-default p w s v r (inside f q x) a b c d e h =
     }
 set-default p w s v r (closed f) a b c d e h = record { filled = rw e h.filled; shut = c ∙ h.shut }
 
-pub fresh-reads : (p : Profile) (n : ℕ) (r : Reader) → r.count ≡ 0 → r.depth ≡ 0 → r.default ≡ 0 → r.folders ≡ replicate 17 0 → Reads p (zeroed n) r (before none)
-unfolding said
+pub fresh-reads : (p : Profile) (n : ℕ) (r : Reader) → r.count ≡ 0 → r.depth ≡ 0 → r.default ≡ None → r.folders ≡ replicate 17 0 → Reads p (zeroed n) r (before none)
 fresh-reads p n r a b c d = record { wide = rw d; rows = a; shut = b; default = rw c; empty = rw (length-replicate {A = ℕ} n 0) }
 
 -- the root's row is all zero

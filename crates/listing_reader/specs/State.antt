@@ -1,24 +1,21 @@
 -- How the reader's struct and the lent table stand for a state of reading in a profile: the table's words are the tree's as it
 -- is spelled, and the struct's rows are found by key.
-use Rattle.std.specs.Prelude.{◌≡◌, List, cond, eqb, length, take, drop, get_or, replicate, ℕ, suc, ◌*◌, ◌≤◌}
+use Rattle.std.specs.Prelude.{◌≡◌, List, length, take, drop, get_or, replicate, ℕ, suc, ◌*◌, ◌≤◌}
 use Rattle.tree.specs.Forest.{TreePath, Forest, Node.folder, kids, size}
 use Rattle.tree.specs.Key.{fold, fold_path}
 use Rattle.tree.specs.declared.Profile.{Profile}
 use Rattle.table_row.specs.Tree.{table}
 use Rattle.table_stands.specs.Around.{row_in}
 use Rattle.table_slot.specs.Insert.{Last}
-use Rattle.listing.specs.Entries.{Said, Said.none, Said.is_dir, Said.is_file}
+use Rattle.listing.specs.Entries.{Said}
 use Rattle.listing.specs.Reading.{State, State.before, State.inside, State.closed, at_key, most_rows}
 use Rattle.listing.specs.Accepted.{GoodState}
+use Rattle.listing_keywords.specs.Entries.{said_of}
 use Rattle.listing_reader.specs.declared.Reader.{Reader}
 
 -- a table of so many words, all zero
 abbrev pub zeroed : ℕ → List ℕ
 zeroed n = replicate n 0
-
--- a default as the struct has it: 1 dir, 2 file, else none
-unfoldable pub said : ℕ → Said
-said n = cond (eqb n 1) is_dir (cond (eqb n 2) is_file none)
 
 -- the first rows of w are the tree's, and the rest is zero
 pub record Filled (w : List ℕ) (count : ℕ) (f : Forest) : Type 0 where
@@ -31,7 +28,7 @@ pub record Waits (w : List ℕ) (s : Reader) (d : Said) : Type 0 where
   pub wide : length s.folders ≡ 17
   pub rows : s.count ≡ 0
   pub shut : s.depth ≡ 0
-  pub default : d ≡ said s.default
+  pub default : d ≡ said_of s.default
   pub empty : w ≡ zeroed (length w)
 
 -- inside it: the depth of an entry listed now is the number of open folders, and each has its row
@@ -39,7 +36,7 @@ pub record Open (p : Profile) (w : List ℕ) (s : Reader) (f : Forest) (q : Tree
   pub wide : length s.folders ≡ 17
   pub filled : Filled w s.count f
   pub deep : s.depth ≡ suc (length q)
-  pub default : d ≡ said s.default
+  pub default : d ≡ said_of s.default
   pub folders : (k : ℕ) → k ≤ length q → get_or s.folders k 0 ≡ row_in (folder (fold p f)) (take k (fold_path p q))
   pub last : Last (row_in (folder (fold p f)) (fold_path p q)) (kids (at_key p f q)) s.last
 

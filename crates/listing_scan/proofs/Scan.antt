@@ -3,6 +3,7 @@ use mathlib.Core.Path.{◌≡◌, refl}
 use mathlib.Core.List.{List, [], ◌∷◌}
 use mathlib.Core.Bool.{Bool, true, false, cond, beq}
 use native.Mathlib.Numerals.{add-one}
+use native.Mathlib.Omega.{arith}
 use lib.Dec.{eqb}
 use lib.ListN.{length, drop, get_or}
 use lib.Seq.{drop-cons}
@@ -12,6 +13,9 @@ use Rattle.listing.specs.Lines.{step_of, is_done, len_in}
 use Rattle.listing.specs.Words.{blank, span, is_refused, is_text}
 use Rattle.listing.specs.declared.Mode.{Mode}
 use Rattle.listing_scan.specs.Places.{stretch, line_ends}
+use Rattle.std.specs.Bool.{◌==◌}
+use Rattle.std.specs.List.{count_by}
+use Rattle.std.proofs.lemmas.List.Recursion.{is_count_by}
 
 module _ (l : List ℕ) (i : ℕ) (h : i < length l) where
   pub byte-first : drop i l ≡ get_or l i 0 ∷ drop (i + 1) l
@@ -47,3 +51,8 @@ span-is (b ∷ bs) = go (blank b bs) (span-is bs)
     go : (t : Bool) → stretch false bs ≡ span bs → cond (beq t false) (suc (stretch false bs)) 0 ≡ cond t 0 (suc (span bs))
     go true e = refl
     go false e = rw e
+
+-- the LFs among bytes are counted
+pub ends-count : (l : List ℕ) → line_ends l ≡ count_by (λ b. b == 10) l
+unfolding line_ends
+ends-count l = is_count_by line_ends (λ b. b == 10) refl (λ b bs. let e : 1 + line_ends bs ≡ suc (line_ends bs) = omega arith in rw e) l

@@ -1,7 +1,7 @@
 // A text's lines as places in it.
 #![tactic(auto)]
 
-ghost use Rattle.std.specs.Prelude.{◌≡◌, true, ◌+◌, ◌≤◌, ◌<◌, length, drop};
+ghost use Rattle.std.specs.Prelude.{◌≡◌, ◌==◌, true, ◌+◌, ◌≤◌, ◌<◌, count_by, length, drop};
 ghost use Rattle.listing.specs.Lines.{len_in};
 ghost use Rattle.listing.specs.declared.Mode.TheVariants.{Lead, Body};
 ghost use Rattle.listing_scan.specs.Places.{is_body, line_ends, Counted};
@@ -11,14 +11,7 @@ ghost use Rattle.listing_scan.specs.Plain.{Past};
 fn in_body(m: listing::Mode) -> bool
     ensures { result ≡ is_body m }
 {
-    match m {
-        listing::Mode::Body => true,
-        listing::Mode::Lead => false,
-        listing::Mode::LeadBack => false,
-        listing::Mode::BodyBack => false,
-        listing::Mode::Comment => false,
-        listing::Mode::Done => false,
-    }
+    matches!(m, listing::Mode::Body)
 }
 
 // Whether the sixteen bytes from a place on are from least to 126 and none is a backslash: all are looked at, so that no jump
@@ -28,9 +21,8 @@ fn sixteen(text: &[u8], from: usize, least: u8) -> bool
     ensures { result ≡ true → Past least text.now from (from + 16) }
 {
     let mut all = true;
-    let mut k = 0;
-    while k < 16 {
-        let b = text[from + k];
+    for k in from..from + 16 {
+        let b = text[k];
         if b < least {
             all = false;
         }
@@ -40,7 +32,6 @@ fn sixteen(text: &[u8], from: usize, least: u8) -> bool
         if b == 92 {
             all = false;
         }
-        k += 1;
     }
     all
 }
@@ -51,6 +42,7 @@ fn past_sixteens(text: &[u8], from: usize, least: u8) -> usize
     ensures { Past least text.now from result }
 {
     let mut i = from;
+    // A `while`, since a step is sixteen bytes.
     while i + 16 <= text.len() {
         if sixteen(text, i, least) {
             i += 16;
@@ -81,21 +73,19 @@ fn body_end(text: &[u8], from: usize) -> usize
     ensures { Counted text.now (from + len_in Body (drop from text.now)) result }
 {
     let mut back = false;
-    let mut i = past_plain(text, from, 32);
-    while i < text.len() {
+    for i in past_plain(text, from, 32)..text.len() {
         let b = text[i];
-        i += 1;
         if b == 10 {
             if back {
                 back = false;
             } else {
-                return i;
+                return i + 1;
             }
         } else {
             back = b == 92;
         }
     }
-    i
+    text.len()
 }
 
 // The end of the logical line that begins at from.
@@ -104,31 +94,28 @@ pub fn line_end(text: &[u8], from: usize) -> usize
     ensures { Counted text.now (from + len_in Lead (drop from text.now)) result }
 {
     let mut m = listing::Mode::Lead;
-    let mut i = from;
-    while i < text.len() {
+    for i in from..text.len() {
         m = listing_bytes::step(m, listing_bytes::sort_byte(text[i]));
-        i += 1;
         if listing_bytes::ended(m) {
-            return i;
+            return i + 1;
         }
         if in_body(m) {
-            return body_end(text, i);
+            return body_end(text, i + 1);
         }
     }
-    i
+    text.len()
+}
+
+// How often LF stands in a part.
+fn count_lf(part: &[u8]) -> usize
+    ensures { result ≡ count_by (λ b. b == 10) part.now }
+{
+    part.iter().filter(|b| **b == 10).count()
 }
 
 // The LFs of a part, by which the line number grows.
 pub fn line_ends(part: &[u8]) -> usize
     ensures { Counted part.now (line_ends part.now) result }
 {
-    let mut n: usize = 0;
-    let mut i = past_sixteens(part, 0, 32);
-    while i < part.len() {
-        if part[i] == 10 {
-            n += 1;
-        }
-        i += 1;
-    }
-    n
+    count_lf(&part[past_sixteens(part, 0, 32)..])
 }

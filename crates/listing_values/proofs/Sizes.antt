@@ -1,7 +1,7 @@
 -- A size's digits, one more, and the sizes that are refused.
-use mathlib.Core.Path.{◌≡◌, refl, sym}
+use mathlib.Core.Path.{◌≡◌, refl}
 use mathlib.Core.List.{List, [], ◌∷◌}
-use mathlib.Core.Bool.{Bool, true, false, false≢true, cond, ◌&&◌}
+use mathlib.Core.Bool.{Bool, true, false, cond, ◌&&◌}
 use native.Mathlib.Omega.{arith}
 use native.Mathlib.Nat.{le_refl, le_trans}
 use lib.Dec.{leb, ltb}
@@ -11,7 +11,6 @@ use borrow.Author.Tests.{le-leb, lt-leb}
 use Rattle.listing.specs.Bytes.{digit_value}
 use Rattle.listing.specs.Values.{digits, decimal_from, size_of, is_size}
 use Rattle.listing_scan.proofs.Scan.{byte-first}
-use Rattle.listing_values.specs.Values.{IsSize}
 
 module _ (l : List ℕ) (i : ℕ) (h : i < length l) where
   pub digits-at : (base : ℕ) → digits base (drop i l) ≡ cond (ltb (digit_value (get_or l i 0)) base) (digits base (drop (i + 1) l)) false
@@ -21,10 +20,6 @@ module _ (l : List ℕ) (i : ℕ) (h : i < length l) where
   pub decimal-at : (v : ℕ) → decimal_from v (drop i l) ≡ decimal_from (10 * v + digit_value (get_or l i 0)) (drop (i + 1) l)
   unfolding decimal_from
   decimal-at v = rw (byte-first l i h)
-
--- what is handed back for a size that is refused
-pub size-bad : (v : List ℕ) → is_size v ≡ false → IsSize v (record { good = false; high = 0; low = 0 })
-size-bad v e = record { told = sym e; high = λ q. absurd (false≢true q); low = λ q. absurd (false≢true q) }
 
 pub decimal-grows : (v : ℕ) (l : List ℕ) → v ≤ decimal_from v l
 unfolding decimal_from

@@ -1,15 +1,12 @@
--- What reading a value hands back: whether it is good, and if so its words.
-use Rattle.std.specs.Prelude.{◌≡◌, List, [], ◌∷◌, Bool, true, false, cond, ltb, ℕ, ◌+◌, ◌*◌, ◌/◌, ◌%◌}
+-- What reading a value hands back: its words, if it is good.
+use Rattle.std.specs.Prelude.{◌≡◌, List, [], ◌∷◌, Bool, true, false, cond, ltb, ℕ, ◌+◌, ◌*◌, ◌/◌, ◌%◌, Option, Some, None}
 use Rattle.listing.specs.Values.{digits, size_of, is_size, hex_bytes, digest_of, is_digest}
-use Rattle.listing_names.specs.declared.Spelt.{Spelt}
-use Rattle.listing_names.specs.declared.Told.{Told}
 use Rattle.listing_values.specs.declared.Size.{Size}
 
 -- a size, its high word and its low one
-pub record IsSize (v : List ℕ) (r : Size) : Type 0 where
-  pub told : r.good ≡ is_size v
-  pub high : r.good ≡ true → r.high ≡ size_of v / 4294967296
-  pub low : r.good ≡ true → r.low ≡ size_of v % 4294967296
+abbrev pub IsSize : List ℕ → Option Size → Type 0
+IsSize v (Some s) = (is_size v ≡ true) × (s.high ≡ size_of v / 4294967296) × (s.low ≡ size_of v % 4294967296)
+IsSize v None = is_size v ≡ false
 
 -- every value is a digit's of the base
 unfoldable pub all_below : ℕ → List ℕ → Bool
@@ -23,11 +20,11 @@ pairs (a ∷ []) = []
 pairs (a ∷ b ∷ ds) = (16 * a + b) ∷ pairs ds
 
 -- two hex digits to a byte
-pub record IsHex (v : List ℕ) (r : Spelt) : Type 0 where
-  pub told : r.good ≡ digits 16 v
-  pub bytes : r.good ≡ true → r.bytes ≡ hex_bytes v
+abbrev pub IsHex : List ℕ → Option (List ℕ) → Type 0
+IsHex v (Some b) = (digits 16 v ≡ true) × (b ≡ hex_bytes v)
+IsHex v None = digits 16 v ≡ false
 
 -- a digest
-pub record IsDigest (v : List ℕ) (r : Told) : Type 0 where
-  pub told : r.good ≡ is_digest v
-  pub words : r.good ≡ true → r.words ≡ digest_of v
+abbrev pub IsDigest : List ℕ → Option (List ℕ) → Type 0
+IsDigest v (Some w) = (is_digest v ≡ true) × (w ≡ digest_of v)
+IsDigest v None = is_digest v ≡ false

@@ -1,33 +1,32 @@
 // What a word says besides a name: a keyword, a size, a digest.
 #![tactic(auto)]
 
-ghost use Rattle.std.specs.Prelude.{◌≡◌, true, cond, map, ◌-◌, ◌<◌, ◌≤◌, length, take};
+ghost use Rattle.std.specs.Prelude.{◌≡◌, ◌==◌, true, cond, map, position, ◌-◌, ◌<◌, ◌≤◌, length, take};
 ghost use Rattle.tree.specs.Same.{same_words};
 ghost use Rattle.listing.specs.Bytes.{digit_value, within};
 ghost use Rattle.listing.specs.Words.{key_len};
 ghost use Rattle.listing_scan.specs.Places.{Counted};
 ghost use Rattle.listing_values.specs.Values.{IsSize, IsHex, IsDigest, all_below, pairs};
 
-// A size's two words, and whether it is one.
+// A size's two words.
 #[derive(Clone, Copy)]
 pub struct Size {
-    pub good: bool,
     pub high: u32,
     pub low: u32,
+}
+
+// Where the first `=` of a word stands.
+fn first_equals(word: &[u8]) -> Option<usize>
+    ensures { result ≡ position (λ b. b == 61) word.now }
+{
+    word.iter().position(|b| *b == 61)
 }
 
 // Where a word's keyword ends: at its first `=`, else at its end.
 pub fn key_end(word: &[u8]) -> usize
     ensures { Counted word.now (key_len word.now) result }
 {
-    let mut i = 0;
-    while i < word.len() {
-        if word[i] == 61 {
-            return i;
-        }
-        i += 1;
-    }
-    i
+    first_equals(word).unwrap_or(word.len())
 }
 
 // A word's keyword is key.
@@ -38,46 +37,31 @@ pub fn has_key(word: &[u8], key: &[u8]) -> bool
     listing_words::same_bytes(&word[..k], key)
 }
 
-// A digit's value, to count with.
-fn wide(d: u8) -> u64
-    ensures { (result ≡ d) × (result < 256) }
-{
-    d as u64
-}
-
 // The size that a value says.
-pub fn size_of(value: &[u8]) -> Size
+pub fn size_of(value: &[u8]) -> Option<Size>
     ensures { IsSize value.now result }
 {
-    let bad = Size {
-        good: false,
-        high: 0,
-        low: 0,
-    };
     if value.len() == 0 {
-        return bad;
+        return None;
     }
     if 20 < value.len() {
-        return bad;
+        return None;
     }
     let mut v: u64 = 0;
-    let mut i = 0;
-    while i < value.len() {
-        let d = wide(listing_bytes::digit_value(value[i]));
+    for &b in value {
+        let d = u64::from(listing_bytes::digit_value(b));
         if 9 < d {
-            return bad;
+            return None;
         }
         if (18446744073709551615 - d) / 10 < v {
-            return bad;
+            return None;
         }
         v = 10 * v + d;
-        i += 1;
     }
-    Size {
-        good: true,
+    Some(Size {
         high: (v / 4294967296) as u32,
         low: (v % 4294967296) as u32,
-    }
+    })
 }
 
 // How far a byte of a range stands above base, and other for any other byte.
@@ -109,10 +93,8 @@ fn hex_values(value: &[u8]) -> [u8; 64]
     ensures { (length result ≡ 64) × (result ≡ map digit_value value.now) }
 {
     let mut digits = [0u8; 64];
-    let mut i: usize = 0;
-    while i < 64 {
+    for i in 0..64 {
         digits[i] = hex_value(value[i]);
-        i += 1;
     }
     digits
 }
@@ -123,12 +105,10 @@ fn all_digits(digits: &[u8; 64]) -> bool
     ensures { result ≡ all_below 16 digits.now }
 {
     let mut good = true;
-    let mut i: usize = 0;
-    while i < 64 {
-        if 15 < digits[i] {
+    for &d in digits {
+        if 15 < d {
             good = false;
         }
-        i += 1;
     }
     good
 }
@@ -139,43 +119,30 @@ fn packed_pairs(digits: &[u8; 64]) -> [u8; 32]
     ensures { result ≡ pairs digits.now }
 {
     let mut bytes = [0u8; 32];
-    let mut i: usize = 0;
-    while i < 32 {
+    for i in 0..32 {
         bytes[i] = 16 * digits[2 * i] + digits[2 * i + 1];
-        i += 1;
     }
     bytes
 }
 
 // The bytes that 64 hex digits say.
-fn hex_bytes(value: &[u8]) -> listing_names::Spelt
+fn hex_bytes(value: &[u8]) -> Option<[u8; 32]>
     requires { length value.now ≡ 64 }
     ensures { IsHex value.now result }
 {
     let digits = hex_values(value);
     if all_digits(&digits) {
-        let bytes = packed_pairs(&digits);
-        return listing_names::Spelt { good: true, bytes };
+        return Some(packed_pairs(&digits));
     }
-    listing_names::Spelt {
-        good: false,
-        bytes: [0; 32],
-    }
+    None
 }
 
 // The digest that a value says.
-pub fn digest_of(value: &[u8]) -> listing_names::Told
+pub fn digest_of(value: &[u8]) -> Option<[u32; 8]>
     ensures { IsDigest value.now result }
 {
     if value.len() != 64 {
-        return listing_names::Told {
-            good: false,
-            words: [0; 8],
-        };
+        return None;
     }
-    let s = hex_bytes(value);
-    let b = s.bytes;
-    let words = listing_names::pack(&b);
-    let good = s.good;
-    listing_names::Told { good, words }
+    Some(listing_names::pack(&hex_bytes(value)?))
 }

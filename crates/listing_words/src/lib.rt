@@ -44,15 +44,12 @@ fn stretch_end(line: &[u8], from: usize, blanks: bool) -> usize
     requires { from ≤ length line.now }
     ensures { Counted line.now (from + stretch blanks (drop from line.now)) result }
 {
-    let mut i = from;
-    while i < line.len() {
-        if blank_at(line, i) == blanks {
-            i += 1;
-        } else {
+    for i in from..line.len() {
+        if blank_at(line, i) != blanks {
             return i;
         }
     }
-    i
+    line.len()
 }
 
 // The first place from there on that is no blank.
@@ -80,27 +77,17 @@ fn refused(b: u8) -> bool
             return false;
         }
     }
-    match listing_bytes::sort_byte(b) {
-        listing::Class::Refused => true,
-        listing::Class::Plain => false,
-        listing::Class::Escape => false,
-        listing::Class::Blank => false,
-        listing::Class::LineEnd => false,
-        listing::Class::Hash => false,
-        listing::Class::Mark => false,
-    }
+    matches!(listing_bytes::sort_byte(b), listing::Class::Refused)
 }
 
 // No byte of a line is due number 7.
 pub fn all_text(line: &[u8]) -> bool
     ensures { result ≡ is_text line.now }
 {
-    let mut i = listing_scan::past_plain(line, 0, 32);
-    while i < line.len() {
+    for i in listing_scan::past_plain(line, 0, 32)..line.len() {
         if refused(line[i]) {
             return false;
         }
-        i += 1;
     }
     true
 }
@@ -109,15 +96,5 @@ pub fn all_text(line: &[u8]) -> bool
 pub fn same_bytes(a: &[u8], b: &[u8]) -> bool
     ensures { result ≡ same_words a.now b.now }
 {
-    if a.len() != b.len() {
-        return false;
-    }
-    let mut i = 0;
-    while i < a.len() {
-        if a[i] != b[i] {
-            return false;
-        }
-        i += 1;
-    }
-    true
+    a == b
 }

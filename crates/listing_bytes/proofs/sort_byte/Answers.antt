@@ -25,14 +25,10 @@ unfolding class_of
 returns-in-42 c = ⊎_elim (λ e. rw e) (⊎_elim (λ e. rw e) (⊎_elim (λ e. rw e) (λ e. rw e))) c.in-42.is
 
 pub returns-in-33-to-126 : goal.returns-in-33-to-126
-returns-in-33-to-126 c =
-    let r = c.in-33-to-126.in_default-own.rest in
-    plain r.0.0.0.0.1 r.0.0.0.1 r.0.0.1 r.0.1 r.1 c.in-33-to-126.if-b-lt32-own.false c.in-33-to-126.if-b-lt127-own.true
+returns-in-33-to-126 c = search (plain)
 
 pub returns-in_default : goal.returns-in_default
-returns-in_default c =
-    let r = c.in_default.in_default-own.rest in low r.0.0.0.0.1 r.0.0.0.1 r.0.0.1 r.0.1 r.1 c.in_default.if-b-lt32-own.true
+returns-in_default c = search (low, high)
 
 pub returns-in_default-2 : goal.returns-in_default-2
-returns-in_default-2 c =
-    let r = c.in_default.in_default-own.rest in high r.0.0.0.0.1 r.0.0.0.1 r.0.0.1 r.0.1 r.1 c.in_default.if-b-lt127-own.false
+returns-in_default-2 c = search (low, high)

@@ -1,35 +1,33 @@
 -- `entry_of` meets its contract, type by type.
+use mathlib.Core.Path.{◌≡◌, sym, ap, ◌∙◌}
+use borrow.Author.Rules.{rules}
+use Rattle.std.proofs.Common.{Some, Ok, Err}
 use Rattle.listing.specs.Entries.{type_in, entry_of}
-use Rattle.listing_keywords.proofs.Entries.{folder-bare}
+use Rattle.listing_keywords.specs.Entries.{held_of}
+use Rattle.listing_keywords.proofs.Entries.{entry-bad, entry-folder, entry-file, entry-untold}
 use Rattle.listing_held.proofs.entry_of.Goals as goal
 
-pub returns-in-Unsaid : goal.returns-in-Unsaid
+pub returns-in_err-type_by : goal.returns-in_err-type_by
 unfolding entry_of type_in
-returns-in-Unsaid c =
-    let kind = c.type_by-t.ensures _ c.find_keys-h.ensures.kind in
-    rw (← kind, c.in-Unsaid.is) c.bare.ensures
+returns-in_err-type_by c =
+    let r : c.from_residual.result ≡ Err c.in_err-type_by.field-0.0 = search rules in
+    r ∙ entry-bad _ _ _ (sym c.in_err-type_by.was ∙ c.type_by.ensures _ _ c.find_keys-h.ensures.kind)
 
-pub returns-in-Dir : goal.returns-in-Dir
+pub returns-in-Some-Dir : goal.returns-in-Some-Dir
 unfolding entry_of type_in
-returns-in-Dir c =
-    let kind = c.type_by-t.ensures _ c.find_keys-h.ensures.kind in
-    rw (← kind, c.in-Dir.is) (folder-bare _ c.bare-in-Dir.ensures)
+returns-in-Some-Dir c =
+    let w = c.in_ok-type_by.was in
+    let d = c.in-Some-Dir.is in
+    entry-folder _ _ (sym (w ∙ ap Ok (d ∙ ap Some c.in-Some-Dir.field-0-is)) ∙ c.type_by.ensures _ _ c.find_keys-h.ensures.kind)
 
-pub returns-in-File : goal.returns-in-File
+pub returns-in-Some-File : goal.returns-in-Some-File
 unfolding entry_of type_in
-returns-in-File c =
+returns-in-Some-File c =
     let f = c.find_keys-h.ensures in
-    let kind = c.type_by-t.ensures _ c.find_keys-h.ensures.kind in
-    rw (← kind, c.in-File.is) (c.file_of.ensures _ _ f.size f.digest)
+    let w = c.in_ok-type_by.was in
+    let d = c.in-Some-File.is in
+    c.file_of.ensures _ _ _ f.size f.digest ∙ ap held_of (entry-file _ _ (sym (w ∙ ap Ok (d ∙ ap Some c.in-Some-File.field-0-is)) ∙ c.type_by.ensures _ _ f.kind))
 
-pub returns-in-Other : goal.returns-in-Other
+pub returns-in-None : goal.returns-in-None
 unfolding entry_of type_in
-returns-in-Other c =
-    let kind = c.type_by-t.ensures _ c.find_keys-h.ensures.kind in
-    rw (← kind, c.in-Other.is) c.bare-in-Other.ensures
-
-pub returns-in-Twice : goal.returns-in-Twice
-unfolding entry_of type_in
-returns-in-Twice c =
-    let kind = c.type_by-t.ensures _ c.find_keys-h.ensures.kind in
-    rw (← kind, c.in-Twice.is) c.bare-in-Twice.ensures
+returns-in-None c = entry-untold _ _ (sym (c.in_ok-type_by.was ∙ ap Ok c.in-None.is) ∙ c.type_by.ensures _ _ c.find_keys-h.ensures.kind)

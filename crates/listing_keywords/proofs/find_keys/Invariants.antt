@@ -5,7 +5,7 @@ use Rattle.listing_keywords.proofs.Found.{Passed}
 use Rattle.listing_keywords.proofs.find_keys.Given as goal
 
 abbrev pub invariant-loop-i : goal.invariant-loop-i
-invariant-loop-i l = Passed l.line l.from l.i l.h
+invariant-loop-i l = Passed l.rest l.i l.h
 
 abbrev pub decreases-loop-i : goal.decreases-loop-i
-decreases-loop-i l = length l.line - l.i
+decreases-loop-i l = length l.rest - l.i

@@ -10,20 +10,20 @@ use Rattle.listing_keywords.proofs.lacks.Goals as goal
 pub loop-i-init : goal.loop-i-init
 loop-i-init c = (search rules, refl)
 
-pub returns-then-line-a : goal.returns-then-line-a
+pub returns-then-rest-a : goal.returns-then-rest-a
 unfolding values
-returns-then-line-a c =
-    rw (c.loop-i.invariant.1, words-none _ _ _ c.skip_blanks-a.ensures.is c.if-line-a.true)
+returns-then-rest-a c =
+    rw (c.loop-i.invariant.1, words-none _ _ _ c.skip_blanks-a.ensures.is c.if-rest-a.true)
 
 pub returns-then-has_key : goal.returns-then-has_key
 unfolding values
 returns-then-has_key c =
     let t = sym c.has_key.ensures ∙ c.if-has_key.true in
-    rw (c.loop-i.invariant.1, (words-next _ _ _ c.skip_blanks-a.ensures.is _ c.word_end-e.ensures.is c.if-line-a.false).parted, t)
+    rw (c.loop-i.invariant.1, (words-next _ _ _ c.skip_blanks-a.ensures.is _ c.word_end-e.ensures.is c.if-rest-a.false).parted, t)
 
 pub loop-i-smaller : goal.loop-i-smaller
 loop-i-smaller c =
-    let w = words-next _ _ _ c.skip_blanks-a.ensures.is _ c.word_end-e.ensures.is c.if-line-a.false in
+    let w = words-next _ _ _ c.skip_blanks-a.ensures.is _ c.word_end-e.ensures.is c.if-rest-a.false in
     let s = w.some in
     let f = w.fits in
     omega arith
@@ -32,7 +32,7 @@ pub loop-i-preserved : goal.loop-i-preserved
 unfolding values
 loop-i-preserved c =
     let t = sym c.has_key.ensures ∙ c.if-has_key.false in
-    ((words-next _ _ _ c.skip_blanks-a.ensures.is _ c.word_end-e.ensures.is c.if-line-a.false).fits, c.loop-i.invariant.1 ∙ rw ((words-next _ _ _ c.skip_blanks-a.ensures.is _ c.word_end-e.ensures.is c.if-line-a.false).parted, t))
+    ((words-next _ _ _ c.skip_blanks-a.ensures.is _ c.word_end-e.ensures.is c.if-rest-a.false).fits, c.loop-i.invariant.1 ∙ rw ((words-next _ _ _ c.skip_blanks-a.ensures.is _ c.word_end-e.ensures.is c.if-rest-a.false).parted, t))
 
 pub returns : goal.returns
 unfolding values

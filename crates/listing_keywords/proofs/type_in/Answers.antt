@@ -4,4 +4,4 @@ use Rattle.listing_keywords.proofs.type_in.Goals as goal
 
 pub returns : goal.returns
 unfolding type_in
-returns c = c.type_by.ensures _ c.find_keys-h.ensures.kind
+returns c = c.type_by.ensures _ _ c.find_keys.ensures.kind

@@ -1,22 +1,22 @@
 -- `name_of` meets its contract: what unescape spells, packed, and the rule for a table's names.
-use mathlib.Core.Path.{◌∙◌}
-use mathlib.Core.Bool.{false≢true}
+use mathlib.Core.Path.{sym, ◌∙◌}
 use Rattle.listing.specs.Names.{is_name}
 use Rattle.listing_names.specs.Names.{fits}
 use Rattle.listing_names.proofs.name_of.Goals as goal
 
-pub returns-then-s : goal.returns-then-s
+pub returns-in_err-unescape : goal.returns-in_err-unescape
 unfolding is_name fits
-returns-then-s c =
-    let u = c.unescape-s in
-    let k = c.pack-words.ensures ∙ u.ensures.words c.if-s.true in
-    record {
-      told = c.good_name-good.ensures ∙ rw (← k, ← u.ensures.told, c.if-s.true);
-      words = λ e. k;
-    }
+returns-in_err-unescape c = rw c.from_residual.ensures (let e = rw c.in_err-unescape.was at c.unescape.ensures in rw e)
+
+pub returns-then-good_name : goal.returns-then-good_name
+unfolding is_name fits
+returns-then-good_name c =
+    let u = c.in_ok-unescape.ensures in
+    let k = c.pack-words.ensures ∙ u.1 in
+    (rw (u.0, ← k) (sym c.good_name.ensures ∙ c.if-good_name.true), k)
 
 pub returns : goal.returns
 unfolding is_name fits
 returns c =
-    let u = c.unescape-s in
-    record { told = rw (← u.ensures.told, c.if-s.false); words = λ e. absurd (false≢true e) }
+    let u = c.in_ok-unescape.ensures in
+    rw (u.0, ← c.pack-words.ensures ∙ u.1) (sym c.good_name.ensures ∙ c.if-good_name.false)

@@ -1,6 +1,5 @@
 -- `unescape` meets its contract: the first n bytes are what the bytes before place i spell, and none of them is 0.
 use mathlib.Core.Path.{sym, ◌∙◌}
-use mathlib.Core.Bool.{false≢true}
 use native.Mathlib.Omega.{arith}
 use Prim.Native.Nat.{◌+◌}
 use Rattle.listing_names.proofs.Spelling.{decode-at, decode-plain, decode-escape, write-none, write-one, spelt-bad, spelt-long, spelt-fits, spelt-words}
@@ -12,18 +11,12 @@ loop-i-init c = write-none c.args.word.now
 pub returns-then-b-eq0 : goal.returns-then-b-eq0
 returns-then-b-eq0 c =
     let w = c.args.word.now in
-    record {
-      told = sym (spelt-bad w c.loop-i.bytes c.loop-i.n c.loop-i.i c.loop-i.invariant _ _ (sym c.byte_at-b.ensures ∙ c.if-b-eq0.true) (decode-at w c.loop-i.i c.loop-i-test.true));
-      words = λ e. absurd (false≢true e);
-    }
+    spelt-bad w c.loop-i.bytes c.loop-i.n c.loop-i.i c.loop-i.invariant _ _ (sym c.byte_at-b.ensures ∙ c.if-b-eq0.true) (decode-at w c.loop-i.i c.loop-i-test.true)
 
 pub returns-then-n-eq32 : goal.returns-then-n-eq32
 returns-then-n-eq32 c =
     let w = c.args.word.now in
-    record {
-      told = sym (spelt-long w c.loop-i.bytes c.loop-i.n c.loop-i.i c.loop-i.invariant _ _ (omega arith) (decode-at w c.loop-i.i c.loop-i-test.true));
-      words = λ e. absurd (false≢true e);
-    }
+    spelt-long w c.loop-i.bytes c.loop-i.n c.loop-i.i c.loop-i.invariant _ _ (omega arith) (decode-at w c.loop-i.i c.loop-i-test.true)
 
 pub loop-i-preserved-then-word-i-eq92 : goal.loop-i-preserved-then-word-i-eq92
 loop-i-preserved-then-word-i-eq92 c =
@@ -43,7 +36,4 @@ pub returns : goal.returns
 returns c =
     let l = c.loop-i in
     let w = c.args.word.now in
-    record {
-      told = sym (spelt-fits w l.bytes l.n l.i l.invariant c.loop-i-test.false);
-      words = λ e. spelt-words w l.bytes l.n l.i l.invariant c.loop-i-test.false;
-    }
+    (spelt-fits w l.bytes l.n l.i l.invariant c.loop-i-test.false, spelt-words w l.bytes l.n l.i l.invariant c.loop-i-test.false)

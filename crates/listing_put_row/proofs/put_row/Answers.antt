@@ -1,5 +1,5 @@
 -- `put_row` meets its contract: where the name goes among the rows in use, and the row put in there.
-use mathlib.Core.Path.{refl, sym, ◌∙◌}
+use mathlib.Core.Path.{sym, ◌∙◌}
 use lib.ListN.{length-take}
 use Rattle.listing_reader.proofs.Placed.{in_use, less-deep, row_fits, opened-ready, did-deep, did-taken, did-full, did-put}
 use native.Mathlib.Omega.{arith}
@@ -9,7 +9,7 @@ use Rattle.listing_put_row.proofs.put_row.Goals as goal
 pub returns-then-depth-eq17 : goal.returns-then-depth-eq17
 returns-then-depth-eq17 c =
     let a = c.args in
-    record { does = λ f q v g h. did-deep a.profile a.t.now a.s a.name a.c f q v g h a.t.now _ c.if-depth-eq17.true (omega arith) }
+    record { does = λ f q v g h. did-deep a.profile a.t.now a.s a.name a.c f q v g h a.t.now c.if-depth-eq17.true }
 
 pub overflow_sub-k : goal.overflow_sub-k
 overflow_sub-k c = let p = c.requires.1 in omega arith
@@ -47,8 +47,8 @@ insert-requires c =
     let i = simp length-take at (rw c.in-Some.is at c.find_spot.ensures.inside) in
     (omega arith, f.0)
 
-pub enter-state-requires : goal.enter-state-requires
-enter-state-requires c =
+pub enter-requires : goal.enter-requires
+enter-requires c =
     let a = c.args in
     (less-deep _ _ (in_use c.args.profile c.args.t.now c.args.s (opened-ready _ _ _ c.requires.0 c.requires.1)) c.if-depth-eq17.false, (row_fits a.s.count a.t.now (sym c.if-has_room.true ∙ c.has_room.ensures)).1)
 
@@ -56,9 +56,9 @@ pub returns-then-has_room : goal.returns-then-has_room
 returns-then-has_room c =
     record {
       does = λ f q v g h.
-          did-put c.args.profile c.args.t.now c.args.s c.args.name c.args.c f q v g h c.insert.new.t _ c.if-depth-eq17.false _ (sym c.in-Some.is ∙ c.find_spot.ensures.answer)
-          c.requires.2 (search rules) (sym c.if-has_room.true ∙ c.has_room.ensures) refl c.enter-state.ensures
-          (c.insert.ensures ∙ rw c.row_of.ensures);
+          rw c.enter.ensures (did-put c.args.profile c.args.t.now c.args.s c.args.name c.args.c f q v g h c.insert.new.t c.if-depth-eq17.false _ (sym c.in-Some.is ∙ c.find_spot.ensures.answer)
+          c.requires.2 (search rules) (sym c.if-has_room.true ∙ c.has_room.ensures)
+          (c.insert.ensures ∙ rw c.row_of.ensures));
     }
 
 pub returns-in-None : goal.returns-in-None
@@ -66,7 +66,7 @@ returns-in-None c =
     let a = c.args in
     record {
       does = λ f q v g h.
-          did-taken a.profile a.t.now a.s a.name a.c f q v g h a.t.now _ c.if-depth-eq17.false (sym c.in-None.is ∙ c.find_spot.ensures.answer) (omega arith);
+          did-taken a.profile a.t.now a.s a.name a.c f q v g h a.t.now c.if-depth-eq17.false (sym c.in-None.is ∙ c.find_spot.ensures.answer);
     }
 
 pub returns-else-has_room : goal.returns-else-has_room
@@ -74,6 +74,6 @@ returns-else-has_room c =
     let a = c.args in
     record {
       does = λ f q v g h.
-          did-full a.profile a.t.now a.s a.name a.c f q v g h a.t.now _ c.if-depth-eq17.false _ (sym c.in-Some.is ∙ c.find_spot.ensures.answer)
-          (sym c.if-has_room.false ∙ c.has_room.ensures) (omega arith);
+          did-full a.profile a.t.now a.s a.name a.c f q v g h a.t.now c.if-depth-eq17.false _ (sym c.in-Some.is ∙ c.find_spot.ensures.answer)
+          (sym c.if-has_room.false ∙ c.has_room.ensures);
     }

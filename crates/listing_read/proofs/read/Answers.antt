@@ -9,15 +9,17 @@ use Rattle.listing_read.proofs.read.Goals as goal
 pub read_lines-answer-requires : goal.read_lines-answer-requires
 read_lines-answer-requires c = zeros-all _ (length c.args.table.now) c.zero.ensures
 
-pub returns-in-Accepted : goal.returns-in-Accepted
-returns-in-Accepted c =
-    read-accepted _ _ _ (sym c.has_form.ensures ∙ c.if-has_form.true) _ (zeros-long _ _ c.zero.ensures) _ _ c.read_lines-answer.ensures _ c.in-Accepted.is
-
-pub returns-in-Refused : goal.returns-in-Refused
-returns-in-Refused c =
+pub returns-then-is_err : goal.returns-then-is_err
+returns-then-is_err c =
     let ran = c.read_lines-answer in
     let same = zeros-long _ _ c.zero.ensures in
-    read-refused _ _ _ (sym c.has_form.ensures ∙ c.if-has_form.true) _ same _ _ ran.ensures _ _ _ _ c.in-Refused.is (c.zero-in-Refused.ensures ∙ ap zeroed (ran.auto.t ∙ same))
+    read-refused _ _ _ (sym c.has_form.ensures ∙ c.if-has_form.true) _ same _ _ ran.ensures _ (sym c.is_err.ensures.value ∙ c.if-is_err.true)
+    (c.zero-then-is_err.ensures ∙ ap zeroed (ran.auto.t ∙ same))
+
+pub returns-else-is_err : goal.returns-else-is_err
+returns-else-is_err c =
+    read-accepted _ _ _ (sym c.has_form.ensures ∙ c.if-has_form.true) _ (zeros-long _ _ c.zero.ensures) _ _ c.read_lines-answer.ensures
+    (sym c.is_err.ensures.value ∙ c.if-is_err.false)
 
 pub returns : goal.returns
 returns c = read-formless _ _ _ _ (sym c.has_form.ensures ∙ c.if-has_form.false) (search rules)

@@ -16,15 +16,15 @@ slice_bounds-take_line-count c = let e = c.line_end-e.ensures.is in omega arith
 pub slice_bounds-take_line-end : goal.slice_bounds-take_line-end
 slice_bounds-take_line-end c = c.line_end-e.ensures.fits
 
-pub take_line-went-requires : goal.take_line-went-requires
-take_line-went-requires c = going-ready c.loop-i.invariant.2
+pub take_line-requires : goal.take_line-requires
+take_line-requires c = going-ready c.loop-i.invariant.2
 
-pub returns-then-number-ne0 : goal.returns-then-number-ne0
-returns-then-number-ne0 c =
+pub returns-in-Err : goal.returns-in-Err
+returns-in-Err c =
     let v = c.loop-i in
     let e = c.line_end-e in
-    let k = c.take_line-went in
-    refused-lines (stopped v.invariant.2 e.result e.ensures.is c.loop-i-test.true _ k.result k.ensures c.if-number-ne0.true) c.if-number-ne0.true
+    let k = c.take_line in
+    refused-lines (stopped v.invariant.2 e.result e.ensures.is c.loop-i-test.true _ k.result k.ensures _ c.in-Err.is)
 
 pub slice_bounds-line_ends-count : goal.slice_bounds-line_ends-count
 slice_bounds-line_ends-count c =
@@ -63,8 +63,8 @@ loop-i-preserved c =
     let fits = n.fits in
     let ends = simp (length-take, length-drop) at c.line_ends-line.ensures.fits in
     let low = v.invariant.1 in
-    let k = c.take_line-went in
-    (fits, omega arith, rw c.line_ends-line.ensures.is (goes_on v.invariant.2 e.result e.ensures.is c.loop-i-test.true _ k.result k.ensures c.if-number-ne0.false k.auto.t))
+    let k = c.take_line in
+    (fits, omega arith, rw c.line_ends-line.ensures.is (goes_on v.invariant.2 e.result e.ensures.is c.loop-i-test.true _ k.result k.ensures _ c.in-Ok.is k.auto.t))
 
 pub returns : goal.returns
 returns c =

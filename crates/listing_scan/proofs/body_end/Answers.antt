@@ -8,15 +8,10 @@ use Rattle.listing_scan.proofs.Plain.{body-past}
 use native.Mathlib.Omega.{arith}
 use borrow.Author.Rules.{rules}
 use Rattle.listing_scan.proofs.body_end.Goals as goal
+use Rattle.listing_scan.proofs.body_end.Goals.{then-b-eq10+then-back, else-b-eq10}
 
 pub loop-i-init : goal.loop-i-init
 loop-i-init c = (c.past_plain-i.ensures.fits, body-past c.past_plain-i.ensures)
-
-pub loop-i-preserved-then-back : goal.loop-i-preserved-then-back
-loop-i-preserved-then-back c =
-    let q = body-joins c.args.text.now c.loop-i.i c.loop-i-test.true c.if-b-eq10.true in
-    let e = rw c.if-back.true at c.loop-i.invariant.1 in
-    (search rules, omega arith)
 
 pub returns-else-back : goal.returns-else-back
 returns-else-back c =
@@ -26,9 +21,12 @@ returns-else-back c =
 
 pub loop-i-preserved : goal.loop-i-preserved
 loop-i-preserved c =
-    let q = body-goes c.args.text.now c.loop-i.i c.loop-i-test.true c.loop-i.back (omega (arith, c.type_inv.text c.loop-i.i)) c.if-b-eq10.false in
-    let e = c.loop-i.invariant.1 in
-    (search rules, omega arith)
+    let t = c.args.text.now in
+    let l = c.loop-i in
+    let e = l.invariant.1 in (
+      search rules,
+      elim c.if-b-eq10.branch [ then-b-eq10+then-back w ↦ let q = body-joins t l.i c.loop-i-test.true w.if-b-eq10.true in let z = rw w.if-back.true at e in rw w.back-is (omega arith) | else-b-eq10 w ↦ let q = body-goes t l.i c.loop-i-test.true l.back (omega (arith, c.type_inv.text l.i)) w.if-b-eq10.false in rw w.back-is (omega arith) ],
+    )
 
 pub returns : goal.returns
 unfolding len_in

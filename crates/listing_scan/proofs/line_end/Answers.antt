@@ -1,5 +1,5 @@
 -- `line_end` meets its contract: from place i on, in mode m, the line still has as many bytes as are missing.
-use mathlib.Core.Path.{◌≡◌, refl, sym, ap, ◌∙◌}
+use mathlib.Core.Path.{◌≡◌, sym, ap, ◌∙◌}
 use native.Mathlib.Omega.{arith}
 use lib.ListN.{drop, drop_of_length-le}
 use Prim.Native.Nat.{◌+◌}
@@ -8,9 +8,6 @@ use Rattle.listing.specs.Lines.{len_in}
 use Rattle.listing_scan.proofs.Scan.{len-at, len-done}
 use Rattle.listing_scan.proofs.Body.{body_is}
 use Rattle.listing_scan.proofs.line_end.Goals as goal
-
-pub loop-i-init : goal.loop-i-init
-loop-i-init c = (c.requires, refl, refl)
 
 pub returns-then-ended : goal.returns-then-ended
 returns-then-ended c =

@@ -2,13 +2,10 @@
 use mathlib.Core.Path.{◌≡◌}
 use mathlib.Core.Bool.{false}
 use lib.ListN.{length, drop}
-use Prim.Native.Nat.{◌+◌, ◌-◌, ◌≤◌}
+use Prim.Native.Nat.{◌+◌, ◌≤◌}
 use Rattle.listing.specs.Lines.{is_done, len_in}
 use Rattle.listing.specs.declared.Mode.TheVariants.{Lead}
 use Rattle.listing_scan.proofs.line_end.Given as goal
 
 abbrev pub invariant-loop-i : goal.invariant-loop-i
 invariant-loop-i l = (l.i ≤ length l.text) × (is_done l.m ≡ false) × (l.from + len_in Lead (drop l.from l.text) ≡ l.i + len_in l.m (drop l.i l.text))
-
-abbrev pub decreases-loop-i : goal.decreases-loop-i
-decreases-loop-i l = length l.text - l.i

@@ -2,8 +2,9 @@
 use mathlib.Core.Path.{refl, ◌∙◌}
 use borrow.Author.Tests.{ne_eqb}
 use native.Mathlib.Omega.{arith}
-use lib.ListN.{length}
-use Prim.Native.Nat.{◌<◌}
+use lib.ListN.{length, drop, length-drop, length-take}
+use lib.Seq.{take_all}
+use Prim.Native.Nat.{◌-◌, ◌<◌}
 use Rattle.listing_scan.proofs.Next.{words-next}
 use Rattle.listing_lines.proofs.Words.{by_first, no_words, takes-alters, takes-as}
 use Rattle.listing_lines.proofs.Alters.{refuses, stays}
@@ -28,7 +29,9 @@ word_line-requires c =
     let h = c.if-line-a.false in
     let l : k.result < length c.args.line.now = omega arith in
     let n = words-next c.args.line.now 0 k.result k.ensures.is c.word_end-e.result c.word_end-e.ensures.is l in
-    (n.some, n.fits, c.requires)
+    let some = n.some in
+    let fits = n.fits in
+    (rw (length-take, length-drop) (omega arith), c.requires)
 
 pub returns-then-all_text : goal.returns-then-all_text
 returns-then-all_text c =
@@ -37,9 +40,10 @@ returns-then-all_text c =
     let h = c.if-line-a.false in
     let l : k.result < length a.line.now = omega arith in
     let e = c.word_end-e in
+    let rest = take_all (length a.line.now - e.result) (drop e.result a.line.now) (rw length-drop (omega arith)) in
     takes-as
     (λ most t. by_first a.profile a.line.now k.result k.ensures.is e.result e.ensures.is l most t ∙ rw (ne_eqb _ 35 c.if-line-a-eq35.false, ← c.all_text.ensures, c.if-all_text.true))
-    c.word_line.ensures
+    (rw rest at c.word_line.ensures)
 
 pub returns : goal.returns
 returns c =

@@ -8,18 +8,18 @@ use Rattle.listing_values.specs.Values.{all_below}
 use Rattle.listing_values.proofs.Digests.{below-first}
 use Rattle.listing_values.proofs.all_digits.Goals as goal
 
-pub loop-i-init : goal.loop-i-init
-loop-i-init c = refl
+pub loop-d-init : goal.loop-d-init
+loop-d-init c = refl
 
-pub loop-i-preserved : goal.loop-i-preserved
-loop-i-preserved c =
+pub loop-d-preserved : goal.loop-d-preserved
+loop-d-preserved c =
     let d = c.args.digits.now in
     let n = c.requires in
-    let e = rw (below-first d c.loop-i.i (omega arith) 16) at c.loop-i.invariant in
+    let e = rw (below-first d c.loop-d.d-index (omega arith) 16) at c.loop-d.invariant in
     grind (arith, nat_tests)
 
 pub returns : goal.returns
 unfolding all_below
 returns c =
     let n = c.requires in
-    rw (c.loop-i.invariant, drop_of_length-le c.args.digits.now {i = c.loop-i.i} (omega arith), and-true c.loop-i.good)
+    rw (c.loop-d.invariant, drop_of_length-le c.args.digits.now {i = c.loop-d.d-index} (omega arith), and-true c.loop-d.good)

@@ -1,16 +1,11 @@
--- `listing_words::same_bytes` meets its contract: the bytes before place i are the same.
-use borrow.Author.Rules.{rules}
-use Rattle.table_row.proofs.Compare.{alike-lengths, alike-differ, alike_next, alike_end}
+-- `same_bytes` meets its contract: two parts are equal exactly where they are the same words.
+use Rattle.std.proofs.lemmas.Bool.Decides.{Decides-eqb, same_from_decides}
+use Rattle.std.proofs.lemmas.Slice.Eq.{slice_eq-Decides}
+use Rattle.tree.proofs.Same.{same_words-eq, same_words-refl}
 use Rattle.listing_words.proofs.same_bytes.Goals as goal
 
-pub returns-then-a-b : goal.returns-then-a-b
-returns-then-a-b c = alike-lengths _ _ c.if-a-b.true
-
-pub returns-then-a-i : goal.returns-then-a-i
-returns-then-a-i c = alike-differ _ _ _ c.if-a-i.true
-
-pub loop-i-preserved : goal.loop-i-preserved
-loop-i-preserved c = alike_next c.loop-i.invariant (search rules) (search rules) c.if-a-i.false
-
 pub returns : goal.returns
-returns c = alike_end c.loop-i.invariant (search rules) (search rules)
+returns c =
+    let a = c.args.a.now in
+    let b = c.args.b.now in
+    same_from_decides _ _ (slice_eq-Decides Decides-eqb a b _ c.eq.ensures) (same_words-eq a b, λ e. rw e (same_words-refl b))

@@ -1,7 +1,7 @@
 -- `enter` meets its contract: a folder is opened, a file is not.
 use borrow.Author.Tests.{ne_eqb}
 use Rattle.listing_reader.specs.Does.{entered}
-use Rattle.listing_reader.proofs.enter.Goals as goal
+use Rattle.listing_reader.proofs.Reader.enter.Goals as goal
 
 pub returns-then-kind-eq0 : goal.returns-then-kind-eq0
 unfolding entered
