@@ -1,4 +1,5 @@
 -- Accepted calls of make_move, one after the other, leave the tables of the trees that the moves leave.
+use Rattle.std.proofs.Common.{Ok}
 use mathlib.Core.Path.{◌≡◌, ap, subst, ◌∙◌}
 use mathlib.Core.List.{List, [], ◌∷◌}
 use native.Mathlib.Omega.{arith}
@@ -13,7 +14,6 @@ use Rattle.settle.specs.Resume.{Sides}
 use Rattle.settle.specs.Spelled.{moved_in, after_in}
 use Rattle.table_row.specs.Buffer.{over}
 use Rattle.table_row.specs.Tree.{table}
-use Rattle.table_rules.specs.declared.Answer.TheVariants.{Accepted}
 use Rattle.table_moved.specs.Move.{moved_words, move_due}
 use Rattle.settle.proofs.Spelled.{formed-moved}
 use Rattle.table_row.proofs.Tree.{length-table}
@@ -29,7 +29,7 @@ pub made-tab : (p : Profile) (q : TreePath) (target source result : List ℕ) (t
 unfolding move_due over
 made-tab p q target source result t s M T S =
     let w = moved_words p target source M.names M.depth in
-    let last = Accepted (length w / 20) in
+    let last = Ok (length w / 20) in
     let answered : move_due p target source M.names M.depth M.room ≡ last = first-last _ last M.accepted in
     let P = move-passed p target source M.names M.depth M.room _ answered in
     let room = room-parts (length w / 20) (length M.room) P.room in

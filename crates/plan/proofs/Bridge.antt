@@ -21,7 +21,8 @@ use Rattle.tree.proofs.Size.{row_count}
 use Rattle.settle.proofs.Merge.{first, skip, sorted-skip, plan-end}
 use Rattle.table_stands.proofs.Same.{same-subtrees}
 use Rattle.plan.specs.Items.{kind, items, or_none, words_of}
-use Rattle.plan.specs.Settle.{Three, four, decision_words, ended, past, merge, enough, flatten, firsts, both, entry}
+use Rattle.plan_cursor.specs.Three.{Three}
+use Rattle.plan.specs.Settle.{four, decision_words, ended, past, merge, enough, flatten, firsts, both, entry}
 use Rattle.plan.proofs.Runs.{Runs, written, past as past_runs, inside, Ready, entry_words, own_words, written_step, words-single, words-pair}
 use Rattle.plan.proofs.Head.{Run, head_row}
 use Rattle.plan.proofs.Least.{Key, Key.named, Key.last, key, LeastOf, least_key, least-of, least-key, keep-first, key-at, least-keys}

@@ -12,9 +12,10 @@ use Rattle.tree.specs.Forest.{Forest, Forest.end, Forest.leaf, Forest.dir, Node,
 use Rattle.table_row.specs.Table.{row_at, name}
 use Rattle.table_row.specs.Tree.{file_row, folder_row, rows_of}
 use Rattle.table_row.specs.Order.{ordered}
-use Rattle.table_row.specs.declared.Order.{Order}
+use Rattle.std.specs.Ordering.{is_le, ordering_reverse}
+use Rattle.std.specs.declared.cmp.Ordering.{Ordering as Order}
 use Rattle.table_stands.specs.Stands.{Ruled}
-use Rattle.plan_cursor.specs.Cursor.{none, is_row, order_at, turned, not_after, keep, least}
+use Rattle.plan_cursor.specs.Cursor.{none, is_row, order_at, keep, least}
 use Rattle.plan_cursor.specs.declared.Rows.{Rows}
 use Rattle.tree.proofs.Never.{never}
 use Rattle.tree.proofs.Order.{flip, cmp-refl, cmp-eq, cmp-flip, cmp-trans}
@@ -122,17 +123,17 @@ least-key n (dir m k s) h = h
 
 -- what the code keeps of a head, by its order against two others
 keep-none : (x y : Order) → keep x y none ≡ none
-keep-none x y = go (not_after x) (not_after y)
+keep-none x y = go (is_le x) (is_le y)
   where
     go : (a b : Bool) → cond a (cond b none none) none ≡ none
     go true true = refl
     go true false = refl
     go false b = refl
 
-pub up-to : (x y : Key) → UpTo x y → not_after (ordered (cmp_key x y)) ≡ true
+pub up-to : (x y : Key) → UpTo x y → is_le (ordered (cmp_key x y)) ≡ true
 up-to x y h = go (cmp_key x y) refl
   where
-    go : (w : Ordering) → cmp_key x y ≡ w → not_after (ordered w) ≡ true
+    go : (w : Ordering) → cmp_key x y ≡ w → is_le (ordered w) ≡ true
     go Ordering.lt e = refl
     go Ordering.eq e = refl
     go Ordering.gt e = absurd (h e)
@@ -146,7 +147,7 @@ kept : (n m : Name) (x : Node) (y z : Key) (b : ℕ) → Present x → LeastOf (
     → keep (ordered (cmp_key (named m) y)) (ordered (cmp_key (named m) z)) b ≡ or_none (if_same (cmp n m) x absent) b
 kept n m x y z b h l = go (cmp n m) refl
   where
-    after : (q : Key) → cmp n m ≡ Ordering.lt → named n ≡ q → not_after (ordered (cmp_key (named m) q)) ≡ false
+    after : (q : Key) → cmp n m ≡ Ordering.lt → named n ≡ q → is_le (ordered (cmp_key (named m) q)) ≡ false
     after q e i = let f = cmp-flip n m in rw (← i, f, e)
 
     dropped : (a : Bool) → cond a none none ≡ none
@@ -157,7 +158,7 @@ kept n m x y z b h l = go (cmp n m) refl
         → keep (ordered (cmp_key (named m) y)) (ordered (cmp_key (named m) z)) b ≡ none
     less e (inl i) = let r = cmp-refl n in let j : n ≡ m = cc in never (cc)
     less e (inr (inl i)) = rw (after y e i)
-    less e (inr (inr i)) = rw (after z e i) (dropped (not_after (ordered (cmp_key (named m) y))))
+    less e (inr (inr i)) = rw (after z e i) (dropped (is_le (ordered (cmp_key (named m) y))))
 
     go : (w : Ordering) → cmp n m ≡ w → keep (ordered (cmp_key (named m) y)) (ordered (cmp_key (named m) z)) b ≡ or_none (if_same w x absent) b
     go Ordering.lt e = less e l.one
@@ -174,10 +175,10 @@ keep-first n (leaf m c s) y z b l = kept n m (file c) y z b tt l
 keep-first n (dir m k s) y z b l = kept n m (folder k) y z b tt l
 
 -- the code's order of two heads
-order-turned : (x y : Key) → turned (ordered (cmp_key x y)) ≡ ordered (cmp_key y x)
+order-turned : (x y : Key) → ordering_reverse (ordered (cmp_key x y)) ≡ ordered (cmp_key y x)
 order-turned x y = rw (cmp_key-flip x y) (go (cmp_key x y))
   where
-    go : (w : Ordering) → turned (ordered w) ≡ ordered (flip w)
+    go : (w : Ordering) → ordering_reverse (ordered w) ≡ ordered (flip w)
     go Ordering.lt = refl
     go Ordering.eq = refl
     go Ordering.gt = refl

@@ -13,7 +13,8 @@ use Rattle.table_row.specs.Tree.{root_name, rows_of, node_rows}
 use Rattle.table_stands.specs.Around.{before, row_in}
 use Rattle.table_stands.proofs.Forest.{ruled-within}
 use Rattle.plan.specs.Items.{items, or_none, row_of, words_of, item_words, plan_words}
-use Rattle.plan.specs.Settle.{Three, enough, settled}
+use Rattle.plan_cursor.specs.Three.{Three}
+use Rattle.plan.specs.Settle.{enough, settled}
 use Rattle.plan.proofs.Runs.{row_from, Runs, run_words}
 use Rattle.plan.proofs.Head.{Siblings, run, from-run}
 use Rattle.plan.proofs.Keys.{run-size}

@@ -1,19 +1,10 @@
 -- The plan as the code writes it: the entries of three folders merged by name, a decision for each, and beneath a folder
 -- on both sides its entries in turn. k is the depth left.
-use Rattle.std.specs.Prelude.{◌≡◌, List, [], ◌∷◌, ◌++◌, Bool, true, false, cond, length, ℕ, zero, suc, ◌+◌, ◌/◌, ◌%◌, ◌≤◌}
+use Rattle.std.specs.Prelude.{List, [], ◌∷◌, ◌++◌, Bool, true, false, cond, length, ℕ, zero, suc, ◌+◌, ◌/◌}
 use Rattle.plan_cursor.specs.Cursor.{is_row, from, least, behind, is_folder, decision}
 use Rattle.plan_cursor.specs.declared.Rows.{Rows}
 use Rattle.plan_cursor.specs.declared.Decision.{Decision}
 use Rattle.plan_cursor.specs.declared.Decision.TheVariants.{Agreed, LeftGets, RightGets, Clash}
-
--- three tables of whole rows, 4,096 at most
-pub record Three (o l r : List ℕ) : Type 0 where
-  pub o-small : length o ≤ 81920
-  pub l-small : length l ≤ 81920
-  pub r_small : length r ≤ 81920
-  pub o-whole : length o % 20 ≡ 0
-  pub l-whole : length l % 20 ≡ 0
-  pub r-whole : length r % 20 ≡ 0
 
 -- a decision's four words
 abbrev pub four : ℕ → Rows → List ℕ

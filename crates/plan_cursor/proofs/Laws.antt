@@ -11,7 +11,7 @@ use Rattle.tree.specs.Same.{same_words}
 use Rattle.tree.proofs.Order.{cmp-refl}
 use Rattle.tree.proofs.Same.{same_words-eq}
 use Rattle.table_row.specs.Table.{rows, row_at, name}
-use Rattle.table_row.specs.declared.Order.TheVariants.{Same}
+use Rattle.std.specs.declared.cmp.Ordering.TheVariants.{Equal}
 use Rattle.table_row.proofs.Table.{rows-cons, rows-nil, depth-at}
 use Rattle.plan_cursor.specs.Cursor.{none, seek, order_at, least}
 use Rattle.plan_cursor.specs.declared.Rows.{Rows}
@@ -39,7 +39,7 @@ module _ (w : List ℕ) (d i : ℕ) where
       rw (rows-cons w i h, depth-at, ne_eqb _ _ n, le-ltb _ _ g, add-one)
 
 order_same : (w : List ℕ) (a : ℕ) (v : List ℕ) (b : ℕ) → a < length w / 20 → b < length v / 20
-    → name (row_at w a) ≡ name (row_at v b) → order_at w a v b ≡ Same
+    → name (row_at w a) ≡ name (row_at v b) → order_at w a v b ≡ Equal
 unfolding order_at
 order_same w a v b i j e = rw (lt-ltb _ _ i, lt-ltb _ _ j, e, cmp-refl)
 

@@ -1,11 +1,12 @@
 -- Three tables looked at through a row number of each; 4,294,967,295 is no row.
-use Rattle.std.specs.Prelude.{List, [], ◌∷◌, Bool, true, false, cond, ltb, eqb, length, drop, ℕ, suc, ◌+◌, ◌/◌}
+use Rattle.std.specs.Prelude.{List, [], ◌∷◌, Bool, false, cond, ltb, eqb, length, drop, ℕ, suc, ◌+◌, ◌/◌}
+use Rattle.std.specs.Ordering.{is_le, ordering_reverse}
+use Rattle.std.specs.declared.cmp.Ordering.{Ordering as Order}
+use Rattle.std.specs.declared.cmp.Ordering.TheVariants.{Less, Equal, Greater}
 use Rattle.tree.specs.Name.{cmp}
 use Rattle.tree.specs.Same.{same_words}
 use Rattle.table_row.specs.Table.{Row, row_at, rows, depth, kind, name}
 use Rattle.table_row.specs.Order.{ordered}
-use Rattle.table_row.specs.declared.Order.{Order}
-use Rattle.table_row.specs.declared.Order.TheVariants.{Less, Same, Greater}
 use Rattle.table_find.specs.Subtree.{subtree}
 use Rattle.plan_cursor.specs.declared.Rows.{Rows}
 use Rattle.plan_cursor.specs.declared.Decision.{Decision}
@@ -29,25 +30,15 @@ from w d i = seek d i (drop i (rows w))
 -- the order of the names of row a of w and row b of v; a row that is not there comes after every other
 unfoldable pub order_at : List ℕ → ℕ → List ℕ → ℕ → Order
 order_at w a v b =
-    cond (is_row w a) (cond (is_row v b) (ordered (cmp (name (row_at w a)) (name (row_at v b)))) Less) (cond (is_row v b) Greater Same)
-
-abbrev pub turned : Order → Order
-turned Less = Greater
-turned Same = Same
-turned Greater = Less
-
-abbrev pub not_after : Order → Bool
-not_after Less = true
-not_after Same = true
-not_after Greater = false
+    cond (is_row w a) (cond (is_row v b) (ordered (cmp (name (row_at w a)) (name (row_at v b)))) Less) (cond (is_row v b) Greater Equal)
 
 -- row a, where neither order says that its name comes after another
 abbrev pub keep : Order → Order → ℕ → ℕ
-keep x y a = cond (not_after x) (cond (not_after y) a none) none
+keep x y a = cond (is_le x) (cond (is_le y) a none) none
 
 -- the same by the orders of archive and left, left and right, archive and right
 abbrev pub least_by : Order → Order → Order → Rows → Rows
-least_by x y z h = record { o = keep x z h.o; l = keep (turned x) y h.l; r = keep (turned z) (turned y) h.r }
+least_by x y z h = record { o = keep x z h.o; l = keep (ordering_reverse x) y h.l; r = keep (ordering_reverse z) (ordering_reverse y) h.r }
 
 -- of three heads those with the least name
 abbrev pub least : List ℕ → List ℕ → List ℕ → Rows → Rows

@@ -2,7 +2,12 @@
 #![tactic(auto)]
 
 ghost use Rattle.std.specs.Prelude.{◌≡◌, true, ◌+◌, ◌*◌, ◌%◌, ◌≤◌, length};
-ghost use Rattle.plan_cursor.specs.Cursor.{is_row, from, order_at, not_after, keep, turned, least, behind, is_folder, decision};
+ghost use Rattle.plan_cursor.specs.Cursor.{is_row, from, order_at, keep, least, behind, is_folder, decision};
+
+pub mod tables;
+
+use std::cmp::Ordering;
+pub use tables::Tables;
 
 // A row of archive, left and right each; 4,294,967,295 where there is none.
 #[derive(Clone, Copy)]
@@ -37,8 +42,7 @@ pub fn scan(t: &[u32], i: usize, d: u32) -> u32
     ensures { result ≡ from t.now d i }
 {
     let n = t.len() / 20;
-    let mut j = i;
-    while j < n {
+    for j in i..n {
         let e = t[20 * j];
         if e == d {
             return j as u32;
@@ -46,13 +50,13 @@ pub fn scan(t: &[u32], i: usize, d: u32) -> u32
         if e < d {
             return NONE;
         }
-        j += 1;
     }
     NONE
 }
 
 // The order of the names of two rows; a row that is not there comes after every other.
-pub fn order_at(w: &[u32], a: u32, v: &[u32], b: u32) -> table_row::Order
+#[tactic(auto, unfolding(crate::specs::Cursor::order_at))]
+pub fn order_at(w: &[u32], a: u32, v: &[u32], b: u32) -> Ordering
     ensures { result ≡ order_at w.now a v.now b }
 {
     let i = table_row::wide(a);
@@ -61,60 +65,33 @@ pub fn order_at(w: &[u32], a: u32, v: &[u32], b: u32) -> table_row::Order
         if j < v.len() / 20 {
             return table_compare::compare_names(w, i, v, j);
         }
-        return table_row::Order::Less;
+        return Ordering::Less;
     }
     if j < v.len() / 20 {
-        return table_row::Order::Greater;
+        return Ordering::Greater;
     }
-    table_row::Order::Same
-}
-
-// Whether the first of two names is not after the second.
-fn not_after(x: table_row::Order) -> bool
-    ensures { result ≡ not_after x }
-{
-    match x {
-        table_row::Order::Less => true,
-        table_row::Order::Same => true,
-        table_row::Order::Greater => false,
-    }
+    Ordering::Equal
 }
 
 // Row a, where neither order says that its name comes after another.
-fn kept(a: u32, x: table_row::Order, y: table_row::Order) -> u32
+fn kept(a: u32, x: Ordering, y: Ordering) -> u32
     ensures { result ≡ keep x y a }
 {
-    if not_after(x) {
-        if not_after(y) {
-            return a;
-        }
-    }
-    NONE
-}
-
-// The order of two names, the second first.
-fn turn(x: table_row::Order) -> table_row::Order
-    ensures { result ≡ turned x }
-{
-    match x {
-        table_row::Order::Less => table_row::Order::Greater,
-        table_row::Order::Same => table_row::Order::Same,
-        table_row::Order::Greater => table_row::Order::Less,
-    }
+    if x.is_le() && y.is_le() { a } else { NONE }
 }
 
 // Whether three heads are rows with one name.
-fn same_heads(o: &[u32], l: &[u32], r: &[u32], h: Rows) -> bool
-    ensures { result ≡ true → least o.now l.now r.now h ≡ h }
+fn same_heads(t: Tables, h: Rows) -> bool
+    ensures { result ≡ true → least t.entry.o.now t.entry.l.now t.entry.r.now h ≡ h }
 {
     let a = table_row::wide(h.o);
     let b = table_row::wide(h.l);
     let c = table_row::wide(h.r);
-    if a < o.len() / 20 {
-        if b < l.len() / 20 {
-            if c < r.len() / 20 {
-                if table_compare::same_names(l, b, r, c) {
-                    return table_compare::same_names(o, a, l, b);
+    if a < t.o.len() / 20 {
+        if b < t.l.len() / 20 {
+            if c < t.r.len() / 20 {
+                if table_compare::same_names(t.l, b, t.r, c) {
+                    return table_compare::same_names(t.o, a, t.l, b);
                 }
             }
         }
@@ -123,21 +100,21 @@ fn same_heads(o: &[u32], l: &[u32], r: &[u32], h: Rows) -> bool
 }
 
 // Of three heads those with the least name; where all have one name, as most do, that is told first.
-pub fn least_of(o: &[u32], l: &[u32], r: &[u32], h: Rows) -> Rows
-    ensures { result ≡ least o.now l.now r.now h }
+pub fn least_of(t: Tables, h: Rows) -> Rows
+    ensures { result ≡ least t.entry.o.now t.entry.l.now t.entry.r.now h }
 {
     let a = h.o;
     let b = h.l;
     let c = h.r;
-    if same_heads(o, l, r, h) {
+    if same_heads(t, h) {
         return h;
     }
-    let x = order_at(o, a, l, b);
-    let y = order_at(l, b, r, c);
-    let z = order_at(o, a, r, c);
+    let x = order_at(t.o, a, t.l, b);
+    let y = order_at(t.l, b, t.r, c);
+    let z = order_at(t.o, a, t.r, c);
     let first = kept(a, x, z);
-    let second = kept(b, turn(x), y);
-    let third = kept(c, turn(z), turn(y));
+    let second = kept(b, x.reverse(), y);
+    let third = kept(c, z.reverse(), y.reverse());
     Rows {
         o: first,
         l: second,
@@ -146,6 +123,7 @@ pub fn least_of(o: &[u32], l: &[u32], r: &[u32], h: Rows) -> Rows
 }
 
 // Behind the entry at row t, if there is one, to the next of depth d; else where we were.
+#[tactic(auto, unfolding(crate::specs::Cursor::behind))]
 pub fn behind_at(w: &[u32], d: u32, a: u32, t: u32) -> u32
     requires { length w.now ≤ 81920 }
     ensures { result ≡ behind w.now d a t }
@@ -159,6 +137,7 @@ pub fn behind_at(w: &[u32], d: u32, a: u32, t: u32) -> u32
 }
 
 // Whether row i is a folder's.
+#[tactic(auto, unfolding(crate::specs::Cursor::is_folder))]
 pub fn is_folder(t: &[u32], i: u32) -> bool
     ensures { result ≡ is_folder t.now i }
 {
@@ -171,7 +150,9 @@ pub fn is_folder(t: &[u32], i: u32) -> bool
     }
 }
 
-// The decision where the rows h are not folders on both sides: the first of document 01's four lines that fits.
+// The decision where the rows h are not folders on both sides: the first of document 01's four lines that fits. The tables stay
+// three parameters, since Tables would ask callers for a length too.
+#[tactic(auto, unfolding(crate::specs::Cursor::decision))]
 pub fn decide(o: &[u32], l: &[u32], r: &[u32], h: Rows) -> Decision
     requires { (length o.now % 20 ≡ 0) × (length l.now % 20 ≡ 0) × (length r.now % 20 ≡ 0) }
     ensures { result ≡ decision o.now l.now r.now h }

@@ -2,10 +2,9 @@
 #![tactic(auto)]
 
 ghost use Rattle.std.specs.Prelude.{◌≡◌, ◌/◌};
-ghost use Rattle.plan_run.specs.Answer.{answer_with};
 ghost use Rattle.plan_run.specs.Run.{twins_of, tables_due, rooms_due};
 
-use plan_run::{Counts, Reconciled};
+use plan_run::Counts;
 use table_rules::{Answer, Seen};
 use tree::Profile;
 
@@ -13,10 +12,9 @@ use tree::Profile;
 fn twins_due(o: Seen, l: Seen, r: Seen) -> Answer
     ensures { result ≡ twins_of o.twins l.twins r.twins }
 {
-    let archive = table_answers::twins_refusal(o, 1);
-    let left = table_answers::twins_refusal(l, 2);
-    let right = table_answers::twins_refusal(r, 3);
-    table_answers::first_of(archive, table_answers::first_of(left, right))
+    table_answers::twins_refusal(o, 1)?;
+    table_answers::twins_refusal(l, 2)?;
+    table_answers::twins_refusal(r, 3)
 }
 
 // The tables' faults: 1 and 2 of archive, left and right, then 16 of each.
@@ -26,56 +24,18 @@ pub fn tables_due(profile: Profile, o: &[u32], l: &[u32], r: &[u32]) -> Answer
     let a = table_check::check(profile, o);
     let b = table_check::check(profile, l);
     let c = table_check::check(profile, r);
-    let archive = table_answers::refusal(a, 1);
-    let left = table_answers::refusal(b, 2);
-    let right = table_answers::refusal(c, 3);
-    let twins = twins_due(a, b, c);
-    table_answers::first_of(
-        archive,
-        table_answers::first_of(left, table_answers::first_of(right, twins)),
-    )
+    table_answers::refusal(a, 1)?;
+    table_answers::refusal(b, 2)?;
+    table_answers::refusal(c, 3)?;
+    twins_due(a, b, c)
 }
 
 // The rooms' faults: archive, left, right, list. The last four are the words lent.
 pub fn rooms_due(c: Counts, archive: usize, left: usize, right: usize, list: usize) -> Answer
     ensures { result ≡ rooms_due c archive left right list }
 {
-    let first = table_answers::unless_refused(table_answers::has_room(c.archive, archive), 3, 1);
-    let second = table_answers::unless_refused(table_answers::has_room(c.left, left), 3, 2);
-    let third = table_answers::unless_refused(table_answers::has_room(c.right, right), 3, 3);
-    let last = table_answers::unless_refused(c.list <= list / 3, 3, 4);
-    table_answers::first_of(
-        first,
-        table_answers::first_of(second, table_answers::first_of(third, last)),
-    )
-}
-
-// The whole answer: the counts where it is accepted.
-pub fn answer_with(due: Answer, c: Counts) -> Reconciled
-    ensures { result ≡ answer_with due c }
-{
-    match due {
-        Answer::Accepted { place: _ } => Reconciled {
-            number: 0,
-            side: 0,
-            place: 0,
-            archive: c.archive,
-            left: c.left,
-            right: c.right,
-            list: c.list,
-        },
-        Answer::Refused {
-            number,
-            side,
-            place,
-        } => Reconciled {
-            number,
-            side,
-            place,
-            archive: 0,
-            left: 0,
-            right: 0,
-            list: 0,
-        },
-    }
+    table_answers::unless_refused(table_answers::has_room(c.archive, archive), 3, 1)?;
+    table_answers::unless_refused(table_answers::has_room(c.left, left), 3, 2)?;
+    table_answers::unless_refused(table_answers::has_room(c.right, right), 3, 3)?;
+    table_answers::unless_refused(c.list <= list / 3, 3, 4)
 }

@@ -6,9 +6,9 @@ ghost use Rattle.table_rules.specs.Keyed.{Passes};
 ghost use Rattle.plan_run.specs.Run.{lent};
 ghost use Rattle.plan_run.specs.Steps.{rows_of, Settles};
 
+use plan_cursor::Tables;
 use plan_run::Ran;
 use plan_tally::Tally;
-use table_rules::Answer;
 use tree::Profile;
 
 // A reconciliation of tables that keep the rules: the plan is made, then the rooms are tried, then all is written.
@@ -31,20 +31,23 @@ pub fn with_plan(
         (lent archive.new left.new right.new list.new result.tally)
         result.answer }
 {
-    let n = plan_settle::settle_in(profile, o, l, r, plan) / 4;
-    let c = plan_fill::counts_of(o, l, r, plan, n);
+    let t = Tables { o, l, r };
+    let n = plan_settle::settle_in(profile, t, plan);
+    let items = &plan[..n];
+    let c = plan_fill::counts_of(t, items);
     let due = plan_due::rooms_due(c, archive.len(), left.len(), right.len(), list.len());
-    let answer = plan_due::answer_with(due, c);
     match due {
-        Answer::Accepted { place: _ } => {
-            plan_fill::write_results(o, l, r, plan, n, archive, left, right, list);
-            let tally = plan_tally::counts(list, c.list);
-            Ran { answer, tally }
+        Ok(_) => {
+            plan_fill::write_results(t, items, archive, left, right, list);
+            let tally = plan_tally::counts(&list[..3 * c.list]);
+            Ran {
+                answer: Ok(c),
+                tally,
+            }
         }
-        Answer::Refused {
-            number: _,
-            side: _,
-            place: _,
-        } => Ran { answer, tally: old },
+        Err(refusal) => Ran {
+            answer: Err(refusal),
+            tally: old,
+        },
     }
 }

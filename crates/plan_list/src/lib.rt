@@ -3,7 +3,7 @@
 
 ghost use Rattle.std.specs.Prelude.{◌≡◌, ◌+◌, ◌-◌, ◌*◌, ◌≤◌, length};
 ghost use Rattle.plan.specs.Writes.{Writes, Fills};
-ghost use Rattle.plan_results.specs.Decisions.{decisions, pieces};
+ghost use Rattle.plan_results.specs.Decisions.{decided, pieces};
 ghost use Rattle.plan_results.specs.Pieces.{piece_list};
 
 use plan_cursor::Decision;
@@ -34,32 +34,27 @@ fn write_line(d: Decision, out: &mut [u32], at: usize) -> usize
 }
 
 // How many words the list has.
-pub fn count_list(plan: &[u32], n: usize) -> usize
-    requires { (4 * n ≤ length plan.now) × (n ≤ 12288) }
-    ensures { result ≡ length (pieces piece_list (decisions n plan.now)) }
+pub fn count_list(plan: &[u32]) -> usize
+    requires { length plan.now ≤ 49152 }
+    ensures { result ≡ length (pieces piece_list (decided plan.now)) }
 {
     let mut sum = 0;
-    let mut k = 0;
-    while k < n {
+    for k in 0..plan.len() / 4 {
         let d = plan_decode::decode(plan, k);
         sum += line_len(d);
-        k += 1;
     }
     sum
 }
 
 // The list at the start of out; how many words it has.
-pub fn write_list(plan: &[u32], n: usize, out: &mut [u32]) -> usize
-    requires n_in_bounds { 4 * n ≤ length plan.now }
-    requires plan_in_bounds { length (pieces piece_list (decisions n plan.now)) ≤ length out.old }
-    ensures { Fills out.old (pieces piece_list (decisions n plan.now)) out.new result }
+pub fn write_list(plan: &[u32], out: &mut [u32]) -> usize
+    requires { length (pieces piece_list (decided plan.now)) ≤ length out.old }
+    ensures { Fills out.old (pieces piece_list (decided plan.now)) out.new result }
 {
     let mut at = 0;
-    let mut k = 0;
-    while k < n {
+    for k in 0..plan.len() / 4 {
         let d = plan_decode::decode(plan, k);
         at = write_line(d, out, at);
-        k += 1;
     }
     at
 }

@@ -3,39 +3,36 @@
 
 ghost use Rattle.std.specs.Prelude.{◌≡◌, ◌+◌, ◌-◌, ◌%◌, ◌≤◌, length, take, drop};
 ghost use Rattle.table_row.specs.Buffer.{written};
-ghost use Rattle.plan.specs.Settle.{Three};
 ghost use Rattle.plan.specs.Writes.{Writes};
 ghost use Rattle.plan_results.specs.Pieces.{source_words, named, name_row, piece_of};
 
-use plan_cursor::{Decision, Rows};
+use plan_cursor::{Decision, Rows, Tables};
 use plan_results::{Source, Tree};
 
 // How many words a source has.
-pub fn source_len(o: &[u32], l: &[u32], r: &[u32], s: Source) -> usize
-    requires { Three o.now l.now r.now }
-    ensures { result ≡ length (source_words o.now l.now r.now s) }
+pub fn source_len(t: Tables, s: Source) -> usize
+    ensures { result ≡ length (source_words t.entry.o.now t.entry.l.now t.entry.r.now s) }
 {
     match s {
-        Source::OldPart(i) => table_find::part(o, i).len(),
-        Source::LeftPart(i) => table_find::part(l, i).len(),
-        Source::RightPart(i) => table_find::part(r, i).len(),
-        Source::LeftRow(i) => plan_decode::one_row(l, i).len(),
-        Source::RightRow(i) => plan_decode::one_row(r, i).len(),
+        Source::OldPart(i) => table_find::part(t.o, i).len(),
+        Source::LeftPart(i) => table_find::part(t.l, i).len(),
+        Source::RightPart(i) => table_find::part(t.r, i).len(),
+        Source::LeftRow(i) => plan_decode::one_row(t.l, i).len(),
+        Source::RightRow(i) => plan_decode::one_row(t.r, i).len(),
     }
 }
 
 // A source's words into out at place at; the next place.
-fn copy_source(o: &[u32], l: &[u32], r: &[u32], s: Source, out: &mut [u32], at: usize) -> usize
-    requires three { Three o.now l.now r.now }
-    requires s_in_bounds { at + length (source_words o.now l.now r.now s) ≤ length out.old }
-    ensures { Writes out.old at (source_words o.now l.now r.now s) out.new result }
+fn copy_source(t: Tables, s: Source, out: &mut [u32], at: usize) -> usize
+    requires { at + length (source_words t.o.now t.l.now t.r.now s) ≤ length out.old }
+    ensures { Writes out.old at (source_words t.entry.o.now t.entry.l.now t.entry.r.now s) out.new result }
 {
     match s {
-        Source::OldPart(i) => table_row::copy_words(table_find::part(o, i), out, at),
-        Source::LeftPart(i) => table_row::copy_words(table_find::part(l, i), out, at),
-        Source::RightPart(i) => table_row::copy_words(table_find::part(r, i), out, at),
-        Source::LeftRow(i) => table_row::copy_words(plan_decode::one_row(l, i), out, at),
-        Source::RightRow(i) => table_row::copy_words(plan_decode::one_row(r, i), out, at),
+        Source::OldPart(i) => table_row::copy_words(table_find::part(t.o, i), out, at),
+        Source::LeftPart(i) => table_row::copy_words(table_find::part(t.l, i), out, at),
+        Source::RightPart(i) => table_row::copy_words(table_find::part(t.r, i), out, at),
+        Source::LeftRow(i) => table_row::copy_words(plan_decode::one_row(t.l, i), out, at),
+        Source::RightRow(i) => table_row::copy_words(plan_decode::one_row(t.r, i), out, at),
     }
 }
 
@@ -53,37 +50,28 @@ fn rename(row: &[u32], out: &mut [u32], at: usize, e: usize)
 }
 
 // What is moved, from place at to e of out, called as in the tree that a new tree goes by, where that one has it.
-fn name_moved(l: &[u32], r: &[u32], tree: Tree, h: Rows, out: &mut [u32], at: usize, e: usize)
-    requires { (length l.now % 20 ≡ 0) × (length r.now % 20 ≡ 0) × (at ≤ e) × ((e - at) % 20 ≡ 0) × (e ≤ length out.old) }
-    ensures { out.new ≡ written out.old at (named (name_row tree l.now r.now h) (take (e - at) (drop at out.old))) }
+fn name_moved(t: Tables, tree: Tree, h: Rows, out: &mut [u32], at: usize, e: usize)
+    requires { (at ≤ e) × ((e - at) % 20 ≡ 0) × (e ≤ length out.old) }
+    ensures { out.new ≡ written out.old at (named (name_row tree t.entry.l.now t.entry.r.now h) (take (e - at) (drop at out.old))) }
 {
     match tree {
-        Tree::Archive => rename(plan_decode::one_row(l, h.l), out, at, e),
-        Tree::Left => rename(plan_decode::one_row(l, h.l), out, at, e),
-        Tree::Right => rename(plan_decode::one_row(r, h.r), out, at, e),
+        Tree::Archive => rename(plan_decode::one_row(t.l, h.l), out, at, e),
+        Tree::Left => rename(plan_decode::one_row(t.l, h.l), out, at, e),
+        Tree::Right => rename(plan_decode::one_row(t.r, h.r), out, at, e),
     }
 }
 
 // A new tree's piece for a decision, into out at place at; the next place.
-pub fn write_piece(
-    o: &[u32],
-    l: &[u32],
-    r: &[u32],
-    tree: Tree,
-    d: Decision,
-    out: &mut [u32],
-    at: usize,
-) -> usize
-    requires three { Three o.now l.now r.now }
-    requires d_in_bounds { at + length (piece_of tree o.now l.now r.now d) ≤ length out.old }
-    ensures { Writes out.old at (piece_of tree o.now l.now r.now d) out.new result }
+pub fn write_piece(t: Tables, tree: Tree, d: Decision, out: &mut [u32], at: usize) -> usize
+    requires { at + length (piece_of tree t.o.now t.l.now t.r.now d) ≤ length out.old }
+    ensures { Writes out.old at (piece_of tree t.entry.o.now t.entry.l.now t.entry.r.now d) out.new result }
 {
     let s = plan_decode::takes(tree, d);
-    let e = copy_source(o, l, r, s, out, at);
+    let e = copy_source(t, s, out, at);
     match d {
         Decision::Agreed(_) => {}
-        Decision::LeftGets(h) => name_moved(l, r, tree, h, out, at, e),
-        Decision::RightGets(h) => name_moved(l, r, tree, h, out, at, e),
+        Decision::LeftGets(h) => name_moved(t, tree, h, out, at, e),
+        Decision::RightGets(h) => name_moved(t, tree, h, out, at, e),
         Decision::Clash(_) => {}
     }
     e

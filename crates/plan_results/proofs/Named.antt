@@ -27,7 +27,7 @@ use Rattle.table_stands.proofs.Subtree.{held-words}
 use Rattle.table_stands.proofs.Forest.{ruled-within}
 use Rattle.table_stands.proofs.Keyed.{stands-reach}
 use Rattle.plan.specs.Items.{kind, items, or_none, row_of, plan_words}
-use Rattle.plan.specs.Settle.{Three}
+use Rattle.plan_cursor.specs.Three.{Three}
 use Rattle.plan.proofs.Keyed.{IsTableIn}
 use Rattle.plan_results.specs.declared.Tree.{Tree}
 use Rattle.plan_results.specs.declared.Tree.TheVariants.{Archive, Left, Right}

@@ -11,7 +11,7 @@ use Rattle.table_find.specs.Subtree.{subtree}
 use Rattle.plan_cursor.specs.declared.Rows.{Rows}
 use Rattle.plan_cursor.specs.declared.Decision.{Decision}
 use Rattle.plan_cursor.specs.declared.Decision.TheVariants.{Agreed, LeftGets, RightGets, Clash}
-use Rattle.plan.specs.Settle.{Three}
+use Rattle.plan_cursor.specs.Three.{Three}
 use Rattle.plan.specs.Writes.{Writes}
 use Rattle.plan_results.specs.declared.Tree.{Tree}
 use Rattle.plan_results.specs.declared.Tree.TheVariants.{Archive, Left, Right}
@@ -62,11 +62,11 @@ piece-length t o l r T (Clash h) = refl
 -- what is taken has been written, and is to be named
 module _ (t : Tree) (o l r : List ℕ) (T : Three o l r) (d : Decision) {b e : List ℕ} {at q : ℕ} (w : Writes b at (taken t o l r d) e q) where
   pub moved-room : at + length (piece_of t o l r d) ≤ length b → length e ≡ length b
-      → (length l % 20 ≡ 0) × (length r % 20 ≡ 0) × (at ≤ q) × ((q - at) % 20 ≡ 0) × (q ≤ length e)
+      → (at ≤ q) × ((q - at) % 20 ≡ 0) × (q ≤ length e)
   moved-room h s =
       let n = w.next in
       let m = source-whole o l r T (source_of d t) in
-      (T.l-whole, T.r-whole, omega arith, omega arith, omega (arith, piece-length t o l r T d))
+      (omega arith, omega arith, omega (arith, piece-length t o l r T d))
 
   pub moved_named : (h : Rows) {f : List ℕ} → at ≤ length b → f ≡ written e at (named (name_row t l r h) (take (q - at) (drop at e)))
       → Writes b at (named (name_row t l r h) (taken t o l r d)) f q

@@ -1,13 +1,13 @@
 -- A plan's words read back.
-use mathlib.Core.Path.{◌≡◌, refl}
+use mathlib.Core.Path.{◌≡◌, refl, sym, ap, ◌∙◌}
 use mathlib.Core.List.{List, ◌++◌}
 use native.Mathlib.Omega.{arith}
 use native.Mathlib.Nat.{add-zero}
-use lib.ListN.{length, drop, get_or, length-drop, get_or-append}
-use lib.Seq.{get_or-drop, drop-append-le}
-use Prim.Native.Nat.{ℕ, zero, suc, ◌+◌, ◌*◌, ◌≤◌}
+use lib.ListN.{length, drop, take, get_or, length-drop, get_or-append, take-append-drop}
+use lib.Seq.{get_or-drop, drop-append-le, length-take-le}
+use Prim.Native.Nat.{ℕ, zero, suc, ◌+◌, ◌*◌, ◌/◌, ◌≤◌}
 use Rattle.table_row.specs.Buffer.{over}
-use Rattle.plan_results.specs.Decisions.{numbered, decision_of, decisions}
+use Rattle.plan_results.specs.Decisions.{numbered, decision_of, decisions, decided}
 
 -- item k in the words that the code reads
 pub decision-at : (p : List ℕ) (k : ℕ) → decision_of (drop (4 * k) p)
@@ -38,3 +38,12 @@ decisions-prefix (suc n) p x h =
 pub decisions-over : (n : ℕ) (d p : List ℕ) → 4 * n ≤ length p → decisions n (over d p) ≡ decisions n p
 unfolding over
 decisions-over n d p h = decisions-prefix n p (drop (length p) d) h
+
+-- a plan of q words at the start of a longer buffer is that of these words alone
+pub decided-front : (q : ℕ) (p : List ℕ) → q ≤ length p → decided (take q p) ≡ decisions (q / 4) p
+decided-front q p h =
+    let e : length (take q p) ≡ q = length-take-le q p h in
+    rw e (
+    sym (decisions-prefix (q / 4) (take q p) (drop q p) (omega (arith, e)))
+    ∙ ap (decisions (q / 4)) (take-append-drop q p)
+    )

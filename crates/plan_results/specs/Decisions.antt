@@ -1,5 +1,5 @@
 -- A plan's words read back: four for each decision.
-use Rattle.std.specs.Prelude.{List, [], ◌∷◌, ◌++◌, cond, eqb, drop, get_or, ℕ, zero, suc}
+use Rattle.std.specs.Prelude.{List, [], ◌∷◌, ◌++◌, cond, eqb, drop, get_or, length, ℕ, zero, suc, ◌/◌}
 use Rattle.plan_cursor.specs.declared.Rows.{Rows}
 use Rattle.plan_cursor.specs.declared.Decision.{Decision}
 use Rattle.plan_cursor.specs.declared.Decision.TheVariants.{Agreed, LeftGets, RightGets, Clash}
@@ -16,6 +16,10 @@ decision_of p = numbered (get_or p 0 0) (record { o = get_or p 1 0; l = get_or p
 unfoldable pub decisions : ℕ → List ℕ → List Decision
 decisions zero p = []
 decisions (suc n) p = decision_of p ∷ decisions n (drop 4 p)
+
+-- those of a whole plan
+abbrev pub decided : List ℕ → List Decision
+decided p = decisions (length p / 4) p
 
 -- what is made of each, one after the other
 unfoldable pub pieces : (Decision → List ℕ) → List Decision → List ℕ

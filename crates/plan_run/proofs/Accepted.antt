@@ -1,4 +1,5 @@
 -- A run is accepted exactly when the three tables keep the rules and every result has room.
+use Rattle.std.proofs.Common.{Ok}
 use mathlib.Core.Path.{◌≡◌}
 use mathlib.Core.List.{List}
 use mathlib.Core.Bool.{true}
@@ -7,7 +8,6 @@ use lib.ListN.{length}
 use Prim.Native.Nat.{ℕ, ◌/◌, ◌≤◌}
 use borrow.Author.Tests.{leb-true, le-leb}
 use Rattle.tree.specs.declared.Profile.{Profile}
-use Rattle.table_rules.specs.declared.Answer.TheVariants.{Accepted}
 use Rattle.table_rules.specs.Answer.{is_accepted}
 use Rattle.table_rules.specs.Keyed.{Passes}
 use Rattle.table_rules.specs.Faults.{first_refusal, unless, room_rule}
@@ -51,7 +51,7 @@ passed p o l r b h =
       };
     }
 
-pub accepted : (p : Profile) (o l r : List ℕ) (b : Lent) → Passed p o l r b → run_due p o l r b ≡ Accepted 0
+pub accepted : (p : Profile) (o l r : List ℕ) (b : Lent) → Passed p o l r b → run_due p o l r b ≡ Ok 0
 unfolding run_due tables_due twins_of rooms_due first_refusal
 accepted p o l r b P =
     rw (

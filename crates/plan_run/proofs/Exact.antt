@@ -1,4 +1,5 @@
 -- Where every byte counts, a run is the one of the trees as they are named: no keys, and no number 16.
+use Rattle.std.proofs.Common.{Ok, Err}
 use mathlib.Core.Path.{◌≡◌, refl}
 use mathlib.Core.List.{List, [], ◌∷◌, ◌++◌}
 use mathlib.Core.Bool.{cond}
@@ -10,11 +11,9 @@ use Rattle.settle.specs.Results.{Outcome, outcome}
 use Rattle.settle.proofs.Spelled.{left-exact, right-exact, archive-exact}
 use Rattle.table_row.specs.Buffer.{over}
 use Rattle.table_row.specs.Tree.{table, tree_of}
-use Rattle.table_rules.specs.declared.Answer.{Answer}
-use Rattle.table_rules.specs.declared.Answer.TheVariants.{Accepted, Refused}
 use Rattle.table_rules.specs.declared.Checked.{Checked}
 use Rattle.table_rules.specs.declared.Checked.TheVariants.{Fine, BadLength, BadRow}
-use Rattle.table_rules.specs.Answer.{is_accepted}
+use Rattle.table_rules.specs.Answer.{is_accepted, Answer}
 use Rattle.table_rules.specs.Refusal.{refusal_of}
 use Rattle.table_rules.specs.Faults.{first_refusal}
 use Rattle.table_rules.specs.Keyed.{twins}
@@ -50,13 +49,13 @@ run_plain o l r b = record {
 }
 
 -- the last check's answer may stand last
-last-check : (xs : List Answer) (c : Checked) (side : ℕ) → first_refusal (xs ++ (refusal_of c side ∷ [])) (Accepted 0) ≡ first_refusal xs (refusal_of c side)
+last-check : (xs : List Answer) (c : Checked) (side : ℕ) → first_refusal (xs ++ (refusal_of c side ∷ [])) (Ok 0) ≡ first_refusal xs (refusal_of c side)
 unfolding first_refusal
 last-check [] Fine side = refl
 last-check [] BadLength side = refl
 last-check [] (BadRow i) side = refl
-last-check (Accepted p ∷ xs) c side = last-check xs c side
-last-check (Refused n s p ∷ xs) c side = refl
+last-check (Ok p ∷ xs) c side = last-check xs c side
+last-check (Err r ∷ xs) c side = refl
 
 pub tables-exact : (o l r : List ℕ) → tables_due Exact o l r ≡ tables_plain o l r
 unfolding tables_due twins_of twins tables_plain first_refusal

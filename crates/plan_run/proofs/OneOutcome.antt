@@ -3,7 +3,7 @@ use mathlib.Core.Path.{◌≡◌, sym, ◌∙◌}
 use mathlib.Core.List.{List}
 use Prim.Native.Nat.{ℕ}
 use Rattle.tree.specs.declared.Profile.{Profile}
-use Rattle.plan_run.specs.declared.Reconciled.{Reconciled}
+use Rattle.plan_run.specs.Answer.{Reconciled}
 use Rattle.plan_run.specs.Run.{Lent, ReconcileContract}
 
 pub reconcile-one : (p : Profile) (o l r : List ℕ) (before after after' : Lent) (a b : Reconciled)

@@ -3,7 +3,7 @@
 use mathlib.Core.Path.{◌≡◌, refl, ap, ◌∙◌}
 use mathlib.Core.List.{List, [], ◌∷◌}
 use native.Mathlib.Omega.{arith}
-use lib.ListN.{length, get_or}
+use lib.ListN.{length, take, get_or}
 use Prim.Native.Nat.{ℕ, suc, ◌*◌, ◌/◌, ◌%◌, ◌≤◌}
 use Rattle.tree.specs.Forest.{Forest, size}
 use Rattle.tree.specs.declared.Profile.{Profile}
@@ -15,11 +15,12 @@ use Rattle.table_row.specs.Tree.{table, tree_of}
 use Rattle.table_row.specs.Keyed.{keyed}
 use Rattle.table_rules.specs.Keyed.{Passes}
 use Rattle.plan.specs.Items.{items, words_of, list_words, plan_words}
-use Rattle.plan.specs.Settle.{Three, settled}
+use Rattle.plan_cursor.specs.Three.{Three}
+use Rattle.plan.specs.Settle.{settled}
 use Rattle.plan.specs.Writes.{Fills}
 use Rattle.plan_results.specs.declared.Tree.{Tree}
 use Rattle.plan_results.specs.declared.Tree.TheVariants.{Archive, Left, Right}
-use Rattle.plan_results.specs.Decisions.{decisions, pieces}
+use Rattle.plan_results.specs.Decisions.{decisions, decided, pieces}
 use Rattle.plan_results.specs.Pieces.{new_tree, piece_list}
 use mir.Syntax.{w32}
 use mir.Val.{Fits}
@@ -29,7 +30,7 @@ use Rattle.table_rules.proofs.Passed.{passed-whole, passed_words, passed-rows, p
 use Rattle.settle.proofs.Spelled.{formed-left, formed-right, formed-archive}
 use Rattle.plan.proofs.Keyed.{IsTableIn, settled-keyed}
 use Rattle.plan.proofs.Bound.{plan-length, plan-bound}
-use Rattle.plan_results.proofs.Read.{decisions-over}
+use Rattle.plan_results.proofs.Read.{decisions-over, decided-front}
 use Rattle.plan_results.proofs.Whole.{list-words}
 use Rattle.plan_results.proofs.Named.{new-table-in}
 use Rattle.plan_run.specs.Run.{given, counts_of}
@@ -119,16 +120,17 @@ module _ (p : Profile) where
       items-are : q / 4 ≡ count
       items-are = omega (arith, f.count, long)
 
-      pub items-fit : q / 4 ≤ rows_of o l r
-      items-fit = omega (arith, items-are, most)
+      pub items-fit : q ≤ 4 * rows_of o l r
+      items-fit = omega (arith, f.count, long, most)
 
-      pub items-most : q / 4 ≤ 12288
+      pub items-most : q ≤ 49152
       items-most = omega (arith, items-fit, passed_words p o so.passes, passed_words p l sl.passes, passed_words p r sr.passes)
 
-      read : decisions (q / 4) e ≡ decisions count (plan_words O L R)
-      read = rw (items-are, f.words) (decisions-over count b (settled (keyed p o) (keyed p l) (keyed p r)) (omega (arith, long)) ∙ ap (decisions count) words)
+    module _ (b e : List ℕ) (q : ℕ) (f : Fills b (settled (keyed p o) (keyed p l) (keyed p r)) e q) (fits : q ≤ length e) where
+      read : decided (take q e) ≡ decisions count (plan_words O L R)
+      read = decided-front q e fits ∙ rw (items-are b e q f, f.words) (decisions-over count b (settled (keyed p o) (keyed p l) (keyed p r)) (omega (arith, long)) ∙ ap (decisions count) words)
 
-      tree : (t : Tree) → new_tree t o l r (decisions (q / 4) e) ≡ table (new_in t)
+      tree : (t : Tree) → new_tree t o l r (decided (take q e)) ≡ table (new_in t)
       unfolding new_in
       tree t = ap (new_tree t o l r) read ∙ go t
         where
@@ -137,26 +139,26 @@ module _ (p : Profile) where
           go Left = new-table-in p o l r (tree_of o) (tree_of l) (tree_of r) T (is-table o so) (is-table l sl) (is-table r sr) Left
           go Right = new-table-in p o l r (tree_of o) (tree_of l) (tree_of r) T (is-table o so) (is-table l sl) (is-table r sr) Right
 
-      lines : pieces piece_list (decisions (q / 4) e) ≡ (outcome_words o l r).list
+      lines : pieces piece_list (decided (take q e)) ≡ (outcome_words o l r).list
       lines = ap (pieces piece_list) read ∙ list-words O L R
 
       -- the rows of a table of n rows
-      rows-of : (t : Tree) → length (new_tree t o l r (decisions (q / 4) e)) / 20 ≡ suc (size (new_in t))
+      rows-of : (t : Tree) → length (new_tree t o l r (decided (take q e))) / 20 ≡ suc (size (new_in t))
       rows-of t = let x = ap length (tree t) in let y = length-table (new_in t) (formed-in t).within in omega arith
 
-      pub planned-words : planned_words o l r (decisions (q / 4) e) ≡ outcome_words o l r
+      pub planned-words : planned_words o l r (decided (take q e)) ≡ outcome_words o l r
       unfolding new_in
       planned-words = rw (tree Archive, tree Left, tree Right, lines) refl
 
-      pub planned-counts : planned_counts o l r (decisions (q / 4) e) ≡ counts_of (given p o l r)
+      pub planned-counts : planned_counts o l r (decided (take q e)) ≡ counts_of (given p o l r)
       unfolding new_in
       planned-counts =
-          let n : length (pieces piece_list (decisions (q / 4) e)) / 3 ≡ length (given p o l r).lines = omega (arith, ap length lines, list_length L R (given p o l r).lines) in
+          let n : length (pieces piece_list (decided (take q e))) / 3 ≡ length (given p o l r).lines = omega (arith, ap length lines, list_length L R (given p o l r).lines) in
           rw (rows-of Archive, rows-of Left, rows-of Right, n) refl
 
       -- whole rows, and whole entries
-      pub whole-rows : (t : Tree) → length (new_tree t o l r (decisions (q / 4) e)) % 20 ≡ 0
+      pub whole-rows : (t : Tree) → length (new_tree t o l r (decided (take q e))) % 20 ≡ 0
       whole-rows t = let x = ap length (tree t) in let y = length-table (new_in t) (formed-in t).within in omega arith
 
-      pub whole-lines : length (pieces piece_list (decisions (q / 4) e)) % 3 ≡ 0
+      pub whole-lines : length (pieces piece_list (decided (take q e))) % 3 ≡ 0
       whole-lines = omega (arith, ap length lines, list_length L R (given p o l r).lines)

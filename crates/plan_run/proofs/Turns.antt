@@ -6,7 +6,8 @@ use Prim.Native.Nat.{ℕ, zero, suc, ◌-◌, ◌<◌}
 use Rattle.tree.specs.declared.Profile.TheVariants.{Exact, Folded}
 use Rattle.table_row.specs.Keyed.{keyed}
 use Rattle.table_row.proofs.Keyed.{length-keyed, keyed-exact}
-use Rattle.plan.specs.Settle.{Three, settled}
+use Rattle.plan_cursor.specs.Three.{Three}
+use Rattle.plan.specs.Settle.{settled}
 use Rattle.plan_run.specs.Steps.{settled_after}
 
 pub last_turn : (n : ℕ) (o l r : List ℕ) → n ≡ 0 → settled_after n o l r ≡ settled l r (keyed Folded o)

@@ -1,11 +1,14 @@
--- The answer of a reconciliation: document 01's number, side and place, and the four counts of an accepted one.
-use Rattle.table_rules.specs.declared.Answer.{Answer}
-use Rattle.table_rules.specs.declared.Answer.TheVariants.{Accepted, Refused}
-use Rattle.plan_run.specs.declared.Reconciled.{Reconciled}
+-- The answer of a reconciliation: the four counts of an accepted one, or document 01's number, side and place.
+use Rattle.std.specs.Prelude.{Result, Ok, Err}
+use Rattle.table_rules.specs.declared.Refusal.{Refusal}
+use Rattle.table_rules.specs.Answer.{Answer}
 use Rattle.plan_run.specs.declared.Counts.{Counts}
+
+-- accepted with its counts, or refused
+abbrev pub Reconciled : Type 0
+Reconciled = Result Counts Refusal
 
 -- what is due, with the counts where it is accepted
 abbrev pub answer_with : Answer → Counts → Reconciled
-answer_with (Accepted p) n =
-    record { number = 0; side = 0; place = 0; archive = n.archive; left = n.left; right = n.right; list = n.list }
-answer_with (Refused k s p) n = record { number = k; side = s; place = p; archive = 0; left = 0; right = 0; list = 0 }
+answer_with (Ok p) n = Ok n
+answer_with (Err r) n = Err r

@@ -8,8 +8,7 @@ use Rattle.settle.specs.Results.{Outcome}
 use Rattle.settle.specs.Spelled.{outcome_in}
 use Rattle.table_row.specs.Buffer.{over}
 use Rattle.table_row.specs.Tree.{table, tree_of}
-use Rattle.table_rules.specs.declared.Answer.{Answer}
-use Rattle.table_rules.specs.Answer.{is_accepted}
+use Rattle.table_rules.specs.Answer.{is_accepted, Answer}
 use Rattle.table_rules.specs.declared.Checked.{Checked}
 use Rattle.table_rules.specs.Keyed.{checked_in, twins}
 use Rattle.table_rules.specs.Refusal.{refusal_of, twins_due}
@@ -17,9 +16,8 @@ use Rattle.table_rules.specs.Faults.{first_refusal, unless, room_rule}
 use Rattle.plan.specs.Items.{list_words}
 use Rattle.plan_tally.specs.declared.Tally.{Tally}
 use Rattle.plan_tally.specs.Count.{tally_of}
-use Rattle.plan_run.specs.declared.Reconciled.{Reconciled}
 use Rattle.plan_run.specs.declared.Counts.{Counts}
-use Rattle.plan_run.specs.Answer.{answer_with}
+use Rattle.plan_run.specs.Answer.{Reconciled, answer_with}
 
 -- what the three trees give
 abbrev pub given : Profile → List ℕ → List ℕ → List ℕ → Outcome

@@ -10,9 +10,8 @@ use Rattle.plan.specs.Settle.{settled}
 use Rattle.plan_results.specs.declared.Tree.TheVariants.{Archive, Left, Right}
 use Rattle.plan_results.specs.Decisions.{pieces}
 use Rattle.plan_results.specs.Pieces.{new_tree, piece_list}
-use Rattle.plan_run.specs.declared.Reconciled.{Reconciled}
 use Rattle.plan_run.specs.declared.Counts.{Counts}
-use Rattle.plan_run.specs.Answer.{answer_with}
+use Rattle.plan_run.specs.Answer.{Reconciled, answer_with}
 use Rattle.plan_run.specs.Run.{given, Lent, counts_of, room_due, filled}
 
 -- the plan of three tables of which the first is to be keyed, and n more after it: each is keyed and goes behind the others, so

@@ -2,19 +2,7 @@
 #![tactic(auto)]
 
 use plan_tally::Tally;
-
-// What a reconciliation answers: number, side and place; accepted, the rows of the new archive, left and right, and the
-// list's entries.
-#[derive(Clone, Copy)]
-pub struct Reconciled {
-    pub number: u32,
-    pub side: u32,
-    pub place: usize,
-    pub archive: usize,
-    pub left: usize,
-    pub right: usize,
-    pub list: usize,
-}
+use table_rules::Refusal;
 
 // The rows of the new archive, left and right, and the list's entries.
 #[derive(Clone, Copy)]
@@ -24,6 +12,9 @@ pub struct Counts {
     pub right: usize,
     pub list: usize,
 }
+
+// What a reconciliation answers: what it made, or why it is refused.
+pub type Reconciled = Result<Counts, Refusal>;
 
 // A reconciliation's answer, and the tally after it.
 #[derive(Clone, Copy)]

@@ -74,13 +74,13 @@ module _ (o l r : List ℕ) (k d : ℕ) where
   rest-next m g e p n i = ap (flatten (entry o l r k d)) (merge-next o l r d m g p n) ∙ rw i
 
   -- a turn of the loop: the entry e is written, and the rest is what comes behind it
-  pub turn : {plan₀ plan plan' all : List ℕ} {at q q' : ℕ} (m : ℕ) (g g' e : Rows)
-      → 0 < m → ended o l r g ≡ false → e ≡ least o l r g → g' ≡ past o l r d g e
+  pub turn : {plan₀ plan plan' all : List ℕ} {at q q' : ℕ} (m n : ℕ) (g g' e : Rows)
+      → 0 < m → n ≡ m - 1 → ended o l r g ≡ false → e ≡ least o l r g → g' ≡ past o l r d g e
       → q ≤ length plan → Writes plan q (entry o l r k d e) plan' q'
       → Writes plan₀ at all (written plan q (rest m g)) (q + length (rest m g))
-      → Writes plan₀ at all (written plan' q' (rest (m - 1) g')) (q' + length (rest (m - 1) g'))
-  turn m g g' e p n i j h w v =
-      rw j (onward (rest (m - 1) (past o l r d g e)) h (rest-next m g e p n i) w v)
+      → Writes plan₀ at all (written plan' q' (rest n g')) (q' + length (rest n g'))
+  turn m n g g' e p s x i j h w v =
+      rw (s, j) (onward (rest (m - 1) (past o l r d g e)) h (rest-next m g e p x i) w v)
 
   -- an entry that is a folder on both sides
   pub down : {plan plan' last : List ℕ} {at q p : ℕ} (h g : Rows) → 0 < k → both l r h ≡ true → g ≡ firsts o l r (d + 1) h

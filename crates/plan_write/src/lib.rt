@@ -2,78 +2,56 @@
 #![tactic(auto)]
 
 ghost use Rattle.std.specs.Prelude.{◌+◌, ◌-◌, ◌≤◌, ◌<◌, length};
-ghost use Rattle.plan.specs.Settle.{Three, entry, folder, settled};
+ghost use Rattle.plan.specs.Settle.{entry, folder, settled};
 ghost use Rattle.plan.specs.Writes.{Writes, Fills};
 
-use plan_cursor::{Decision, Rows};
+use plan_cursor::{Decision, Rows, Tables};
 
 // The entries of three folders, of depth d from the heads h on, merged by name: their items into the plan at place at;
 // the next place. k is the depth left.
 #[cycle(settle_entry_settle_folder)]
-fn settle_folder(
-    o: &[u32],
-    l: &[u32],
-    r: &[u32],
-    h: Rows,
-    d: u32,
-    k: usize,
-    plan: &mut [u32],
-    at: usize,
-) -> usize
-    requires three { Three o.now l.now r.now }
+fn settle_folder(t: Tables, h: Rows, d: u32, k: usize, plan: &mut [u32], at: usize) -> usize
     requires k_bound { d + k ≤ 17 }
-    requires h_in_bounds { at + length (folder o.now l.now r.now k d h) ≤ length plan.old }
-    ensures { Writes plan.old at (folder o.now l.now r.now k d h) plan.new result }
+    requires h_in_bounds { at + length (folder t.o.now t.l.now t.r.now k d h) ≤ length plan.old }
+    ensures { Writes plan.old at (folder t.entry.o.now t.entry.l.now t.entry.r.now k d h) plan.new result }
 {
     let mut g = h;
     let mut q = at;
-    let mut left = o.len() / 20 + l.len() / 20 + r.len() / 20;
-    while 0 < left {
-        if plan_steps::ended_at(o, l, r, g) {
+    let n = t.o.len() / 20 + t.l.len() / 20 + t.r.len() / 20;
+    for _ in 0..n {
+        if plan_steps::ended_at(t, g) {
             return q;
         }
-        let e = plan_cursor::least_of(o, l, r, g);
-        q = settle_entry(o, l, r, e, d, k, plan, q);
-        g = plan_steps::past_at(o, l, r, d, g, e);
-        left -= 1;
+        let e = plan_cursor::least_of(t, g);
+        q = settle_entry(t, e, d, k, plan, q);
+        g = plan_steps::past_at(t, d, g, e);
     }
     q
 }
 
 // One entry, of depth d: one that is a folder on both sides is settled as a folder. k is the depth left.
 #[cycle(settle_entry_settle_folder)]
-fn settle_entry(
-    o: &[u32],
-    l: &[u32],
-    r: &[u32],
-    h: Rows,
-    d: u32,
-    k: usize,
-    plan: &mut [u32],
-    at: usize,
-) -> usize
-    requires three { Three o.now l.now r.now }
+fn settle_entry(t: Tables, h: Rows, d: u32, k: usize, plan: &mut [u32], at: usize) -> usize
     requires k_bound { d + k ≤ 17 }
-    requires h_in_bounds { at + length (entry o.now l.now r.now k d h) ≤ length plan.old }
-    ensures { Writes plan.old at (entry o.now l.now r.now k d h) plan.new result }
+    requires h_in_bounds { at + length (entry t.o.now t.l.now t.r.now k d h) ≤ length plan.old }
+    ensures { Writes plan.old at (entry t.entry.o.now t.entry.l.now t.entry.r.now k d h) plan.new result }
 {
     if 0 < k {
-        if plan_steps::both_at(l, r, h) {
+        if plan_steps::both_at(t, h) {
             let q = plan_steps::push(plan, at, Decision::Agreed(h));
-            let g = plan_steps::firsts_at(o, l, r, d + 1, h);
-            return settle_folder(o, l, r, g, d + 1, k - 1, plan, q);
+            let g = plan_steps::firsts_at(t, d + 1, h);
+            return settle_folder(t, g, d + 1, k - 1, plan, q);
         }
     }
-    let x = plan_cursor::decide(o, l, r, h);
+    let x = plan_cursor::decide(t.o, t.l, t.r, h);
     plan_steps::push(plan, at, x)
 }
 
 // The plan of three trees, from the roots' entries on, at the start of plan; how many words it has.
-pub fn settle(o: &[u32], l: &[u32], r: &[u32], plan: &mut [u32]) -> usize
-    requires three { Three o.now l.now r.now }
-    requires r_in_bounds { length (settled o.now l.now r.now) ≤ length plan.old }
-    ensures { Fills plan.old (settled o.now l.now r.now) plan.new result }
+pub fn settle(t: Tables, plan: &mut [u32]) -> usize
+    requires { length (settled t.o.now t.l.now t.r.now) ≤ length plan.old }
+    ensures { Fills plan.old (settled t.entry.o.now t.entry.l.now t.entry.r.now) plan.new result }
 {
-    let h = plan_steps::firsts_at(o, l, r, 1, Rows { o: 0, l: 0, r: 0 });
-    settle_folder(o, l, r, h, 1, 16, plan, 0)
+    let h = plan_steps::firsts_at(t, 1, Rows { o: 0, l: 0, r: 0 });
+    settle_folder(t, h, 1, 16, plan, 0)
 }

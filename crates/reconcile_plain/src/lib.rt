@@ -3,9 +3,8 @@
 
 ghost use Rattle.plan_run.specs.Run.{lent, ReconcileContract};
 
-use plan_run::{Counts, Ran};
+use plan_run::Ran;
 use plan_tally::Tally;
-use table_rules::Answer;
 use tree::Profile;
 
 // The whole run, the tally by value: what other functions call.
@@ -25,26 +24,11 @@ pub fn reconcile_plain(
         (lent archive.new left.new right.new list.new result.tally)
         result.answer }
 {
-    let due = plan_due::tables_due(profile, o, l, r);
-    match due {
-        Answer::Accepted { place: _ } => {
-            plan_carry_out::carry_out(profile, o, l, r, archive, left, right, list, old)
-        }
-        Answer::Refused {
-            number: _,
-            side: _,
-            place: _,
-        } => {
-            let none = Counts {
-                archive: 0,
-                left: 0,
-                right: 0,
-                list: 0,
-            };
-            Ran {
-                answer: plan_due::answer_with(due, none),
-                tally: old,
-            }
-        }
+    match plan_due::tables_due(profile, o, l, r) {
+        Ok(_) => plan_carry_out::carry_out(profile, o, l, r, archive, left, right, list, old),
+        Err(refusal) => Ran {
+            answer: Err(refusal),
+            tally: old,
+        },
     }
 }

@@ -16,18 +16,18 @@ returns-then-same_names c e =
     let x = c.wide-a.ensures.0 in
     let y = c.wide-b.ensures.0 in
     let z = c.wide-c.ensures.0 in
-    least-same a.o.now a.l.now a.r.now a.h (search rules) (search rules) (search rules)
+    least-same a.t.o.now a.t.l.now a.t.r.now a.h (search rules) (search rules) (search rules)
     (rw (← x, ← y) (sym c.same_names-then-same_names.ensures ∙ e))
     (rw (← y, ← z) (sym c.same_names.ensures ∙ c.if-same_names.true))
 
 pub returns-else-same_names : goal.returns-else-same_names
 returns-else-same_names c = unsaid
 
-pub returns-else-c-r : goal.returns-else-c-r
-returns-else-c-r c = unsaid
+pub returns-else-c-t : goal.returns-else-c-t
+returns-else-c-t c = unsaid
 
-pub returns-else-b-l : goal.returns-else-b-l
-returns-else-b-l c = unsaid
+pub returns-else-b-t : goal.returns-else-b-t
+returns-else-b-t c = unsaid
 
-pub returns-else-a-o : goal.returns-else-a-o
-returns-else-a-o c = unsaid
+pub returns-else-a-t : goal.returns-else-a-t
+returns-else-a-t c = unsaid

@@ -2,16 +2,16 @@
 use Rattle.plan_fill.proofs.write_results.Goals as goal
 
 pub write_tree-requires : goal.write_tree-requires
-write_tree-requires c = record { three = c.requires.three; in_bounds = c.requires.in_bounds; n_in_bounds = c.requires.n_in_bounds; plan_in_bounds = c.requires.spacious.archive }
+write_tree-requires c = record { in_bounds = c.requires.in_bounds; plan_in_bounds = c.requires.spacious.archive }
 
 pub write_tree-requires-2 : goal.write_tree-requires-2
-write_tree-requires-2 c = record { three = c.requires.three; in_bounds = c.requires.in_bounds; n_in_bounds = c.requires.n_in_bounds; plan_in_bounds = c.requires.spacious.left }
+write_tree-requires-2 c = record { in_bounds = c.requires.in_bounds; plan_in_bounds = c.requires.spacious.left }
 
 pub write_tree-requires-3 : goal.write_tree-requires-3
-write_tree-requires-3 c = record { three = c.requires.three; in_bounds = c.requires.in_bounds; n_in_bounds = c.requires.n_in_bounds; plan_in_bounds = c.requires.spacious.right }
+write_tree-requires-3 c = record { in_bounds = c.requires.in_bounds; plan_in_bounds = c.requires.spacious.right }
 
 pub write_list-requires : goal.write_list-requires
-write_list-requires c = record { n_in_bounds = c.requires.n_in_bounds; plan_in_bounds = c.requires.spacious.list }
+write_list-requires c = c.requires.spacious.list
 
 pub returns : goal.returns
 returns c =

@@ -1,13 +1,10 @@
 -- `count_list` counts the list's words.
 use lib.ListN.{length}
-use Prim.Native.Nat.{◌-◌}
-use Rattle.plan_results.specs.Decisions.{decisions, pieces}
+use Prim.Native.Nat.{◌/◌}
+use Rattle.plan_results.specs.Decisions.{decided, pieces}
 use Rattle.plan_results.specs.Pieces.{piece_list}
 use Rattle.plan_results.proofs.Rest.{Counting}
 use Rattle.plan_list.proofs.count_list.Given as goal
 
 abbrev pub invariant-loop-k : goal.invariant-loop-k
-invariant-loop-k l = Counting piece_list l.plan l.n (length (pieces piece_list (decisions l.n l.plan))) l.sum l.k
-
-abbrev pub decreases-loop-k : goal.decreases-loop-k
-decreases-loop-k l = l.n - l.k
+invariant-loop-k l = Counting piece_list l.plan (length l.plan / 4) (length (pieces piece_list (decided l.plan))) l.sum l.k

@@ -10,12 +10,12 @@ loop-k-init c = write-start
 
 pub write_line-at-requires : goal.write_line-at-requires
 write_line-at-requires c =
-    rw c.decode-d.ensures (room c.loop-k.invariant (search rules) (rw zero-add c.requires.plan_in_bounds))
+    rw c.decode-d.ensures (room c.loop-k.invariant (search rules) (rw zero-add c.requires))
 
 pub loop-k-preserved : goal.loop-k-preserved
 loop-k-preserved c =
     let v = rw c.decode-d.ensures at c.write_line-at.ensures in
-    write-next c.loop-k.invariant (search rules) (rw zero-add c.requires.plan_in_bounds) c.write_line-at.auto.out v
+    write-next c.loop-k.invariant (search rules) (rw zero-add c.requires) c.write_line-at.auto.out v
 
 pub shape_of-out : goal.shape_of-out
 shape_of-out c = c.loop-k.invariant.same

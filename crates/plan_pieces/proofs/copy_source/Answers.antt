@@ -4,23 +4,23 @@ use Rattle.plan_pieces.proofs.copy_source.Goals as goal
 
 pub copy_words-requires : goal.copy_words-requires
 copy_words-requires c =
-    rw c.part.ensures (rw c.in-OldPart.is at c.requires.s_in_bounds)
+    rw c.part.ensures (rw c.in-OldPart.is at c.requires)
 
 pub copy_words-requires-in-LeftPart : goal.copy_words-requires-in-LeftPart
 copy_words-requires-in-LeftPart c =
-    rw c.part-in-LeftPart.ensures (rw c.in-LeftPart.is at c.requires.s_in_bounds)
+    rw c.part-in-LeftPart.ensures (rw c.in-LeftPart.is at c.requires)
 
 pub copy_words-requires-in-RightPart : goal.copy_words-requires-in-RightPart
 copy_words-requires-in-RightPart c =
-    rw c.part-in-RightPart.ensures (rw c.in-RightPart.is at c.requires.s_in_bounds)
+    rw c.part-in-RightPart.ensures (rw c.in-RightPart.is at c.requires)
 
 pub copy_words-requires-in-LeftRow : goal.copy_words-requires-in-LeftRow
 copy_words-requires-in-LeftRow c =
-    rw c.one_row.ensures.0 (rw c.in-LeftRow.is at c.requires.s_in_bounds)
+    rw c.one_row.ensures.0 (rw c.in-LeftRow.is at c.requires)
 
 pub copy_words-requires-in-RightRow : goal.copy_words-requires-in-RightRow
 copy_words-requires-in-RightRow c =
-    rw c.one_row-in-RightRow.ensures.0 (rw c.in-RightRow.is at c.requires.s_in_bounds)
+    rw c.one_row-in-RightRow.ensures.0 (rw c.in-RightRow.is at c.requires)
 
 pub returns-in-OldPart : goal.returns-in-OldPart
 returns-in-OldPart c =

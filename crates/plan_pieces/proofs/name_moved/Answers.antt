@@ -3,15 +3,15 @@ use Rattle.plan_pieces.proofs.name_moved.Goals as goal
 
 pub rename-requires : goal.rename-requires
 rename-requires c =
-    (c.one_row.ensures.1, c.requires.2, c.requires.3, c.requires.4)
+    (c.one_row.ensures.1, c.requires.0, c.requires.1, c.requires.2)
 
 pub rename-requires-in-Left : goal.rename-requires-in-Left
 rename-requires-in-Left c =
-    (c.one_row-in-Left.ensures.1, c.requires.2, c.requires.3, c.requires.4)
+    (c.one_row-in-Left.ensures.1, c.requires.0, c.requires.1, c.requires.2)
 
 pub rename-requires-in-Right : goal.rename-requires-in-Right
 rename-requires-in-Right c =
-    (c.one_row-in-Right.ensures.1, c.requires.2, c.requires.3, c.requires.4)
+    (c.one_row-in-Right.ensures.1, c.requires.0, c.requires.1, c.requires.2)
 
 pub returns-in-Archive : goal.returns-in-Archive
 returns-in-Archive c =

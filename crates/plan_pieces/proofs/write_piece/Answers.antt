@@ -7,19 +7,19 @@ use Rattle.plan_pieces.proofs.write_piece.Goals as goal
 pub copy_source-e-requires : goal.copy_source-e-requires
 copy_source-e-requires c =
     let a = c.args in
-    record { three = c.requires.three; s_in_bounds = rw c.takes-s.ensures (omega (arith, piece-length a.tree a.o.now a.l.now a.r.now c.requires.three a.d, c.requires.d_in_bounds)) }
+    rw c.takes-s.ensures (omega (arith, piece-length a.tree a.t.o.now a.t.l.now a.t.r.now a.t.three a.d, c.requires))
 
 pub name_moved-requires : goal.name_moved-requires
 name_moved-requires c =
     let a = c.args in
     let x = rw c.takes-s.ensures at c.copy_source-e.ensures in
-    moved-room a.tree a.o.now a.l.now a.r.now c.requires.three a.d x c.requires.d_in_bounds c.copy_source-e.auto.out
+    moved-room a.tree a.t.o.now a.t.l.now a.t.r.now a.t.three a.d x c.requires c.copy_source-e.auto.out
 
 pub name_moved-requires-in-RightGets : goal.name_moved-requires-in-RightGets
 name_moved-requires-in-RightGets c =
     let a = c.args in
     let x = rw c.takes-s.ensures at c.copy_source-e.ensures in
-    moved-room a.tree a.o.now a.l.now a.r.now c.requires.three a.d x c.requires.d_in_bounds c.copy_source-e.auto.out
+    moved-room a.tree a.t.o.now a.t.l.now a.t.r.now a.t.three a.d x c.requires c.copy_source-e.auto.out
 
 pub returns-in-Agreed : goal.returns-in-Agreed
 returns-in-Agreed c =
@@ -30,14 +30,14 @@ returns-in-LeftGets c =
     let a = c.args in
     let h = c.in-LeftGets.h in
     let x = rw (c.takes-s.ensures, c.in-LeftGets.is) at c.copy_source-e.ensures in
-    rw c.in-LeftGets.is (moved_named a.tree a.o.now a.l.now a.r.now c.requires.three (LeftGets h) x h (omega arith) c.name_moved.ensures)
+    rw c.in-LeftGets.is (moved_named a.tree a.t.o.now a.t.l.now a.t.r.now a.t.three (LeftGets h) x h (omega arith) c.name_moved.ensures)
 
 pub returns-in-RightGets : goal.returns-in-RightGets
 returns-in-RightGets c =
     let a = c.args in
     let h = c.in-RightGets.h in
     let x = rw (c.takes-s.ensures, c.in-RightGets.is) at c.copy_source-e.ensures in
-    rw c.in-RightGets.is (moved_named a.tree a.o.now a.l.now a.r.now c.requires.three (RightGets h) x h (omega arith) c.name_moved-in-RightGets.ensures)
+    rw c.in-RightGets.is (moved_named a.tree a.t.o.now a.t.l.now a.t.r.now a.t.three (RightGets h) x h (omega arith) c.name_moved-in-RightGets.ensures)
 
 pub returns-in-Clash : goal.returns-in-Clash
 returns-in-Clash c =

@@ -10,8 +10,8 @@ use native.Mathlib.Omega.{arith}
 use Prim.Native.Nat.{ℕ, ◌≤◌}
 use mathlib.Core.List.{List}
 use Rattle.table_row.specs.Buffer.{over}
-use Rattle.plan.specs.Settle.{Three}
-use Rattle.plan_run.proofs.Turns.{last_turn, turn, three-turned}
+use Rattle.plan_cursor.specs.Three.{Three}
+use Rattle.plan_run.proofs.Turns.{last_turn, turn}
 use Rattle.plan_settle.proofs.+settle_keyed_settle_with.Goals as goal
 
 -- the first table's keys stand at the start of their room
@@ -21,35 +21,29 @@ keys-are o l r b e T h = ap (take (length o)) h ∙ keys-front Folded b o T.o-wh
 keys-fit : (o b e : List ℕ) → length o ≤ length b → length e ≡ length b → length o ≡ length (take (length o) e)
 keys-fit o b e f h = sym (length-take-le _ _ (omega (arith, f, h)))
 
-pub settle_with-slice_bounds-settle-end-then-n-eq0 : goal.settle_with-slice_bounds-settle-end-then-n-eq0
-settle_with-slice_bounds-settle-end-then-n-eq0 t c = keys-fit c.args.o.now _ _ c.requires.o_in_bounds c.key_table.auto.out
+pub settle_with-slice_bounds-turned-end-2 : goal.settle_with-slice_bounds-turned-end-2
+settle_with-slice_bounds-turned-end-2 t c = keys-fit c.args.t.o.now _ _ c.requires.room c.key_table.auto.out
 
 pub settle_with-settle-requires : goal.settle_with-settle-requires
 settle_with-settle-requires t c =
     let a = c.args in
-    let k = keys-are a.o.now a.l.now a.r.now _ _ c.requires.three c.key_table.ensures in
-    record {
-      three = rw k (three-turned a.o.now a.l.now a.r.now c.requires.three);
-      r_in_bounds = rw k (rw (last_turn a.n a.o.now a.l.now a.r.now (omega arith)) at c.requires.r_in_bounds);
-    }
+    let k = keys-are a.t.o.now a.t.l.now a.t.r.now _ _ a.t.three c.key_table.ensures in
+    rw k (rw (last_turn a.n a.t.o.now a.t.l.now a.t.r.now (omega arith)) at c.requires.fits)
 
 pub settle_with-returns-then-n-eq0 : goal.settle_with-returns-then-n-eq0
 settle_with-returns-then-n-eq0 t c =
     let a = c.args in
-    let k = keys-are a.o.now a.l.now a.r.now _ _ c.requires.three c.key_table.ensures in
-    rw (last_turn a.n a.o.now a.l.now a.r.now (omega arith)) (rw k at c.settle.ensures)
-
-pub settle_with-slice_bounds-settle_keyed-end-2 : goal.settle_with-slice_bounds-settle_keyed-end-2
-settle_with-slice_bounds-settle_keyed-end-2 t c = keys-fit c.args.o.now _ _ c.requires.o_in_bounds c.key_table.auto.out
+    let k = keys-are a.t.o.now a.t.l.now a.t.r.now _ _ a.t.three c.key_table.ensures in
+    rw (last_turn a.n a.t.o.now a.t.l.now a.t.r.now (omega arith)) (rw k at c.settle.ensures)
 
 pub settle_with-settle_keyed-requires : goal.settle_with-settle_keyed-requires
 settle_with-settle_keyed-requires t c =
     let a = c.args in
-    let k = keys-are a.o.now a.l.now a.r.now _ _ c.requires.three c.key_table.ensures in
-    (omega arith, (rw k (three-turned a.o.now a.l.now a.r.now c.requires.three), rw k (rw (turn a.n a.o.now a.l.now a.r.now (omega arith)) at c.requires.r_in_bounds)))
+    let k = keys-are a.t.o.now a.t.l.now a.t.r.now _ _ a.t.three c.key_table.ensures in
+    (omega arith, rw k (rw (turn a.n a.t.o.now a.t.l.now a.t.r.now (omega arith)) at c.requires.fits))
 
 pub settle_with-returns : goal.settle_with-returns
 settle_with-returns t c =
     let a = c.args in
-    let k = keys-are a.o.now a.l.now a.r.now _ _ c.requires.three c.key_table.ensures in
-    rw (turn a.n a.o.now a.l.now a.r.now (omega arith)) (rw k at c.settle_keyed.ensures)
+    let k = keys-are a.t.o.now a.t.l.now a.t.r.now _ _ a.t.three c.key_table.ensures in
+    rw (turn a.n a.t.o.now a.t.l.now a.t.r.now (omega arith)) (rw k at c.settle_keyed.ensures)

@@ -3,7 +3,7 @@ use mathlib.Core.Path.{◌∙◌}
 use native.Mathlib.Omega.{arith}
 use borrow.Author.Rules.{rules}
 use Rattle.plan.proofs.Writes.{then, copied, filled}
-use Rattle.plan_results.specs.Decisions.{decisions}
+use Rattle.plan_results.specs.Decisions.{decided}
 use Rattle.plan_results.specs.Pieces.{new_tree}
 use Rattle.plan_results.proofs.Rest.{write-start, room, write-next, write-end}
 use Rattle.plan_results.proofs.Pieces.{tree-split, tree-room}
@@ -12,7 +12,7 @@ use Rattle.plan_trees.proofs.write_tree.Goals as goal
 pub copy_words-at-requires : goal.copy_words-at-requires
 copy_words-at-requires c =
     let a = c.args in
-    omega (arith, tree-split a.tree a.o.now a.l.now a.r.now (decisions a.n a.plan.now), c.requires.plan_in_bounds)
+    omega (arith, tree-split a.tree a.t.o.now a.t.l.now a.t.r.now (decided a.plan.now), c.requires.plan_in_bounds)
 
 pub loop-k-init : goal.loop-k-init
 loop-k-init c = write-start
@@ -21,17 +21,17 @@ loop-k-init c = write-start
 pub write_piece-at-requires : goal.write_piece-at-requires
 write_piece-at-requires c =
     let a = c.args in
-    let y = decisions a.n a.plan.now in
+    let y = decided a.plan.now in
     let q = c.copy_words-at in
-    let m = tree-room a.tree a.o.now a.l.now a.r.now y c.requires.plan_in_bounds q.ensures.0 q.auto.dst in
-    record { three = c.requires.three; d_in_bounds = rw c.decode-d.ensures (room c.loop-k.invariant (search rules) m) }
+    let m = tree-room a.tree a.t.o.now a.t.l.now a.t.r.now y c.requires.plan_in_bounds q.ensures.0 q.auto.dst in
+    rw c.decode-d.ensures (room c.loop-k.invariant (search rules) m)
 
 pub loop-k-preserved : goal.loop-k-preserved
 loop-k-preserved c =
     let a = c.args in
-    let y = decisions a.n a.plan.now in
+    let y = decided a.plan.now in
     let q = c.copy_words-at in
-    let m = tree-room a.tree a.o.now a.l.now a.r.now y c.requires.plan_in_bounds q.ensures.0 q.auto.dst in
+    let m = tree-room a.tree a.t.o.now a.t.l.now a.t.r.now y c.requires.plan_in_bounds q.ensures.0 q.auto.dst in
     let e = rw c.decode-d.ensures at c.write_piece-at.ensures in
     write-next c.loop-k.invariant (search rules) m c.write_piece-at.auto.out e
 

@@ -2,7 +2,7 @@
 use Rattle.std.proofs.Common.{◌*◌}
 use mathlib.Core.Path.{◌≡◌}
 use lib.ListN.{length}
-use Prim.Native.Nat.{◌+◌}
+use Prim.Native.Nat.{◌+◌, ◌-◌}
 use Rattle.table_row.specs.Buffer.{written}
 use Rattle.plan.specs.Settle.{folder}
 use Rattle.plan.specs.Writes.{Writes}
@@ -15,10 +15,7 @@ decreases-settle_entry l = 2 * l.k
 abbrev pub decreases-settle_folder : goal.decreases-settle_folder
 decreases-settle_folder l = 2 * l.k + 1
 
-abbrev pub invariant-settle_folder-loop-left : goal.invariant-settle_folder-loop-left
-invariant-settle_folder-loop-left l =
+abbrev pub invariant-settle_folder-loop : goal.invariant-settle_folder-loop
+invariant-settle_folder-loop l =
     (length l.plan ≡ length l.initial.plan) ×
-    Writes l.initial.plan l.at (folder l.o l.l l.r l.k l.d l.initial.g) (written l.plan l.q (rest l.o l.l l.r l.k l.d l.left l.g)) (l.q + length (rest l.o l.l l.r l.k l.d l.left l.g))
-
-abbrev pub decreases-settle_folder-loop-left : goal.decreases-settle_folder-loop-left
-decreases-settle_folder-loop-left l = l.left
+    Writes l.initial.plan l.at (folder l.t.o.now l.t.l.now l.t.r.now l.k l.d l.initial.g) (written l.plan l.q (rest l.t.o.now l.t.l.now l.t.r.now l.k l.d (l.n - l.counter) l.g)) (l.q + length (rest l.t.o.now l.t.l.now l.t.r.now l.k l.d (l.n - l.counter) l.g))

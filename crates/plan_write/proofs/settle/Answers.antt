@@ -8,7 +8,7 @@ use Rattle.plan_write.proofs.settle.Goals as goal
 pub settle_folder-requires : goal.settle_folder-requires
 unfolding settled
 settle_folder-requires c =
-    record { three = c.requires.three; k_bound = search rules; h_in_bounds = rw (c.firsts_at-h.ensures, zero-add) c.requires.r_in_bounds }
+    record { k_bound = search rules; h_in_bounds = rw (c.firsts_at-h.ensures, zero-add) c.requires }
 
 pub returns : goal.returns
 unfolding settled

@@ -6,12 +6,12 @@ use Rattle.reconcile_plain.proofs.reconcile_plain.Goals as goal
 
 pub carry_out-requires : goal.carry_out-requires
 carry_out-requires c =
-    tables-passed _ _ _ _ (ap is_accepted (sym c.tables_due-due.ensures ∙ c.in-Accepted.is))
+    tables-passed _ _ _ _ (ap is_accepted (sym c.tables_due.ensures ∙ c.in-Ok.is))
 
-pub returns-in-Accepted : goal.returns-in-Accepted
-returns-in-Accepted c =
-    run-settles _ _ _ _ _ _ c.tables_due-due.ensures _ c.in-Accepted.is c.carry_out.ensures
+pub returns-in-Ok : goal.returns-in-Ok
+returns-in-Ok c =
+    run-settles _ _ _ _ _ _ c.tables_due.ensures _ c.in-Ok.is c.carry_out.ensures
 
-pub returns-in-Refused : goal.returns-in-Refused
-returns-in-Refused c =
-    run-refused _ _ _ _ _ _ c.tables_due-due.ensures _ _ _ c.in-Refused.is _ c.answer_with.ensures
+pub returns-in-Err : goal.returns-in-Err
+returns-in-Err c =
+    run-refused _ _ _ _ _ _ c.tables_due.ensures c.in-Err.is
