@@ -13,9 +13,7 @@ fn put_row(text: &mut Text, t: &[u32], i: usize)
     requires { (20 * i + 20 ≤ length t.now) × (text.old.at + 243 < 2 ^ 64) }
     ensures { Wrote text.old (line_of (row_at t.now i)) 243 text.new }
 {
-    let from = 20 * i + 2;
-    let to = from + 8;
-    text.put_name(&t[from..to]);
+    text.put_name(table_row::name(t, i));
     if table_row::word(t, i, 1) == 0 {
         return text.put_all(b" type=dir\n");
     }

@@ -19,9 +19,7 @@ fn put_path(text: &mut Text, t: &[u32], i: usize)
     }
     put_path(text, t, table_route::folder_of(t, i));
     text.put_all(b"/");
-    let from = 20 * i + 2;
-    let to = from + 8;
-    text.put_name(&t[from..to]);
+    text.put_name(table_row::name(t, i));
 }
 
 // The path of row i of the left table, or of row j of the right one where the left has no such row.

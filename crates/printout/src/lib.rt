@@ -20,31 +20,17 @@ pub fn print_plan(
     let mut o = [0u32; 2560];
     let mut l = [0u32; 2560];
     let mut r = [0u32; 2560];
-    let a = printout_file::read_file(profile, archive, &mut o);
-    let b = printout_file::read_file(profile, left, &mut l);
-    let c = printout_file::read_file(profile, right, &mut r);
-    match a {
-        table_rules::Answer::Accepted { place: x } => match b {
-            table_rules::Answer::Accepted { place: y } => match c {
-                table_rules::Answer::Accepted { place: z } => {
-                    printout_run::put_run(profile, out, &o[..20 * x], &l[..20 * y], &r[..20 * z])
-                }
-                table_rules::Answer::Refused {
-                    number,
-                    side: _,
-                    place,
-                } => printout_file::put_refused(out, b"right", number, place),
-            },
-            table_rules::Answer::Refused {
-                number,
-                side: _,
-                place,
-            } => printout_file::put_refused(out, b"left", number, place),
-        },
-        table_rules::Answer::Refused {
-            number,
-            side: _,
-            place,
-        } => printout_file::put_refused(out, b"archive", number, place),
-    }
+    let a = match printout_file::read_file(profile, archive, &mut o) {
+        Ok(rows) => rows,
+        Err(refusal) => return printout_file::put_refused(out, b"archive", refusal),
+    };
+    let b = match printout_file::read_file(profile, left, &mut l) {
+        Ok(rows) => rows,
+        Err(refusal) => return printout_file::put_refused(out, b"left", refusal),
+    };
+    let c = match printout_file::read_file(profile, right, &mut r) {
+        Ok(rows) => rows,
+        Err(refusal) => return printout_file::put_refused(out, b"right", refusal),
+    };
+    printout_run::put_run(profile, out, &o[..20 * a], &l[..20 * b], &r[..20 * c])
 }

@@ -46,7 +46,7 @@ pub fn put_run(profile: Profile, out: &mut [u8], o: &[u32], l: &[u32], r: &[u32]
         &mut list,
         none,
     );
-    let answer = ran.answer;
-    let end = 3 * answer.list;
+    let counts = ran.answer.unwrap();
+    let end = 3 * counts.list;
     put_plan(out, &list[..end], l, r, ran.tally)
 }

@@ -13,6 +13,7 @@ use Rattle.tree.specs.declared.Profile.{Profile}
 use Rattle.table_row.specs.Buffer.{over}
 use Rattle.table_row.specs.Tree.{table, tree_of}
 use Rattle.table_row.proofs.Tree.{length-table, tree-table}
+use Rattle.table_rules.specs.declared.Refusal.{Refusal}
 use Rattle.table_rules.specs.Answer.{is_accepted, number_of, place_of, Answer, refusal}
 use Rattle.listing.specs.Bytes.{text}
 use Rattle.listing.specs.Reading.{Outcome, Outcome.refused, Outcome.accepted, reading}
@@ -63,12 +64,12 @@ taken p (accepted f) a w rows l e =
       same = rw t (tree-table f l.left.0.within);
     }
 
-pub not_taken : (p : Profile) (o : Outcome) (a : Answer) (w : List ℕ) (n s place : ℕ) → Loaded p o a w → a ≡ Err (refusal n s place) → o ≡ refused n place
-not_taken p (refused m line) a w n s place l e =
-    let x : n ≡ m = sym (ap number_of e) ∙ l.says.number-due in
-    let y : place ≡ line = sym (ap place_of e) ∙ l.says.place-due in
+pub not_taken : (p : Profile) (o : Outcome) (a : Answer) (w : List ℕ) (r : Refusal) → Loaded p o a w → a ≡ Err r → o ≡ refused r.number r.place
+not_taken p (refused m line) a w r l e =
+    let x : r.number ≡ m = sym (ap number_of e) ∙ l.says.number-due in
+    let y : r.place ≡ line = sym (ap place_of e) ∙ l.says.place-due in
     cc
-not_taken p (accepted f) a w n s place l e = absurd (false≢true (sym (ap is_accepted e) ∙ l.kind))
+not_taken p (accepted f) a w r l e = absurd (false≢true (sym (ap is_accepted e) ∙ l.kind))
 
 -- its rows are a part of the 2,560 words
 pub taken-part : {p : Profile} {o : Outcome} {w : List ℕ} {rows n : ℕ} → Taken p o w rows → length w ≡ n → n ≡ 2560 → (20 * rows ≤ length w) × (20 * rows ≡ length (take (20 * rows) w))

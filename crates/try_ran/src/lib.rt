@@ -18,20 +18,12 @@ pub fn room(line: &[u8], k: usize, most: usize) -> usize
 
 // What was answered, and the tally.
 pub fn print_ran(rt: &impl Print, ran: Ran) -> io::Result<()> {
-    let a = ran.answer;
-    try_show::print_number(rt, a.number as usize)?;
-    try_show::print_number(rt, a.side as usize)?;
-    try_show::print_number(rt, a.place)?;
-    try_show::print(rt, b" counts")?;
-    try_show::print_number(rt, a.archive)?;
-    try_show::print_number(rt, a.left)?;
-    try_show::print_number(rt, a.right)?;
-    try_show::print_number(rt, a.list)?;
+    match ran.answer {
+        Ok(n) => print!(rt; " 0 0 0 counts {} {} {} {}", n.archive, n.left, n.right, n.list)?,
+        Err(r) => print!(rt; " {} {} {} counts 0 0 0 0", r.number, r.side, r.place)?,
+    }
     let t = ran.tally;
-    try_show::print(rt, b" tally")?;
-    try_show::print_number(rt, t.left as usize)?;
-    try_show::print_number(rt, t.right as usize)?;
-    try_show::print_number(rt, t.clash as usize)
+    print!(rt; " tally {} {} {}", t.left, t.right, t.clash)
 }
 
 // Each of some words.
@@ -48,11 +40,11 @@ pub fn print_list(rt: &impl Print, list: &[u32], entries: usize) -> io::Result<(
         return Ok(());
     }
     let n = 3 * entries;
-    try_show::print(rt, b" list")?;
+    print!(rt; " list")?;
     if entries < 10 {
         print_words(rt, &list[..n])?;
     } else {
-        try_show::print_number(rt, try_show::sum(&list[..n]) as usize)?;
+        print!(rt; " {}", try_show::sum(&list[..n]))?;
     }
-    try_show::print_number(rt, try_show::kept(&list[n..], &try_show::CANARY))
+    print!(rt; " {}", try_show::kept(&list[n..], &try_show::CANARY))
 }

@@ -1,12 +1,20 @@
 // One reconciliation in a profile, in rooms that a line may give; its answer, its tally and its list are printed.
 #![tactic(auto)]
 
-use plan_run::Reconciled;
+use plan_run::Counts;
 use plan_tally::Tally;
 use std::io;
 use tree::Profile;
 
-// A run with the rooms of a line, at the start of buffers.
+// What a refused run leaves in the buffers.
+const NONE: Counts = Counts {
+    archive: 0,
+    left: 0,
+    right: 0,
+    list: 0,
+};
+
+// A run with the rooms of a line, at the start of buffers; the rows and entries that it leaves there.
 pub fn tell_run(
     rt: &impl Print,
     profile: Profile,
@@ -18,7 +26,7 @@ pub fn tell_run(
     left: &mut [u32],
     right: &mut [u32],
     list: &mut [u32],
-) -> io::Result<Reconciled> {
+) -> io::Result<Counts> {
     let a = try_ran::room(line, 4, archive.len());
     let b = try_ran::room(line, 5, left.len());
     let c = try_ran::room(line, 6, right.len());
@@ -38,7 +46,7 @@ pub fn tell_run(
             clash: 9,
         },
     );
-    let n = ran.answer;
+    let n = ran.answer.unwrap_or(NONE);
     try_ran::print_ran(rt, ran)?;
     try_ran::print_list(rt, list, n.list)?;
     Ok(n)

@@ -2,7 +2,6 @@
 use native.Mathlib.Omega.{arith}
 use borrow.Author.Rules.{rules}
 use Prim.Native.Nat.{◌+◌, ◌*◌}
-use Rattle.table_row.proofs.Table.{name-part}
 use Rattle.table_route.proofs.Above.{folder-before}
 use Rattle.listing_spell.proofs.Poured.{wrote-within, rest-all, rest_less, rest-last}
 use Rattle.plan_text.proofs.Path.{root-text, row-text}
@@ -35,5 +34,5 @@ returns t c =
     rw (row-text a.t.now a.i c.if-i-eq0.false)
     (rest-last (129 * a.i + 1)
     (rest_less _ (rest_less _ (rest-all _ _) (rw e at c.put_path.ensures)) c.put_all-2.ensures)
-    (rw (name-part a.t.now a.i) at c.put_name.ensures)
+    (rw c.name.ensures.0 at c.put_name.ensures)
     (omega (arith, c.put_path.ensures.puts.near, c.put_all-2.ensures.puts.near, c.put_name.ensures.puts.near)))

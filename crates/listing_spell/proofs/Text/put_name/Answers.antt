@@ -1,5 +1,5 @@
 -- `listing_spell::Text::put_name` meets its contract: what the bytes from byte k on spell is left.
-use Rattle.std.proofs.Common.{rules, arith, sym, ◌∙◌, refl}
+use Rattle.std.proofs.Common.{rules, arith, sym, ◌∙◌}
 use Rattle.tree.specs.Rules.{bytes}
 use Rattle.tree.proofs.Rules.{length-bytes}
 use Rattle.listing_spell.proofs.Poured.{rest-all, rest_less, rest-none}
