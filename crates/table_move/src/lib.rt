@@ -27,9 +27,7 @@ fn carry_out(
             let span = table_spans::span_at(source, &names[..depth]);
             table_pieces::carry_in(profile, target, target, source, span, names, depth, res)
         }
-        Profile::Folded => table_move_keyed::carry_folded(
-            1, target, target, source, names, depth, res,
-        ),
+        Profile::Folded => table_move_keyed::carry_folded(target, source, names, depth, res),
     }
 }
 

@@ -27,7 +27,7 @@ use Rattle.table_follow.specs.Follow.{follow}
 use Rattle.table_moved.specs.declared.Span.{Span}
 use Rattle.table_moved.specs.Path.{parent_of, path_of}
 use Rattle.table_moved.specs.Move.{is_folder, parent_rule, moved_words}
-use Rattle.table_moved.specs.Pieces.{folder_at, pieces, Rows, Ready, Spans, Inputs, Turn, CarriedOut}
+use Rattle.table_moved.specs.Pieces.{folder_at, pieces, Rows, Ready, Spans, Inputs, ByKeys, CarriedOut}
 use Rattle.table_moved.proofs.Names.{path-own, keys-own, carried-keys}
 use Rattle.table_moved.proofs.Source.{span-words}
 use Rattle.table_moved.proofs.Pieces.{is-folder, no-folder, ready, moved-words}
@@ -107,24 +107,11 @@ exact-inputs Exact target source span names depth e T S l h a = record {
 }
 exact-inputs Folded target source span names depth e T S l h a = never (cc)
 
--- else they are made first
-pub first-turn : (p : Profile) (target source : List ℕ) (names : List Name) (depth : ℕ) → p ≡ Folded → Passes p target → Passes p source → 1 ≤ depth → depth ≤ 16
-    → Turn 1 target target source names depth
-first-turn Exact target source names depth e T S l h = never (cc)
-first-turn Folded target source names depth e T S l h =
-    record { target-passes = T; source-passes = S; keyed-target = λ z. absurd (omega arith); named = λ z. absurd (omega arith); low = l; high = h }
-
--- and then a path of keys leads where its names do
-pub last_turn : (target w keys source : List ℕ) (names path : List Name) (depth turns : ℕ) → path ≡ map (key Folded) names → keys ≡ keyed Folded target
-    → Turn turns target w source names depth → Turn 0 target keys source path depth
-last_turn target w keys source names path depth turns k v T = record {
-  target-passes = T.target-passes;
-  source-passes = T.source-passes;
-  keyed-target = λ z. v;
-  named = λ z. rw k (keys-own Folded names);
-  low = T.low;
-  high = T.high;
-}
+-- a path of keys leads where its names do
+pub by-keys : (target keys source : List ℕ) (names path : List Name) (depth : ℕ) → Passes Folded target × Passes Folded source × (1 ≤ depth) × (depth ≤ 16)
+    → path ≡ map (key Folded) names → keys ≡ keyed Folded target → ByKeys target keys source path depth
+by-keys target keys source names path depth h k v =
+    record { target-passes = h.0; source-passes = h.1; keyed-target = v; named = rw k (keys-own Folded names); low = h.2; high = h.3 }
 
 pub folded-carried : (target source : List ℕ) (names keys : List Name) (depth : ℕ) (lent result : List ℕ) (answer : Answer) → keys ≡ map (key Folded) names
     → CarriedOut Folded target source keys depth lent result answer → CarriedOut Folded target source names depth lent result answer

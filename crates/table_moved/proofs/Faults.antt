@@ -4,7 +4,7 @@ use mathlib.Core.Path.{◌≡◌, refl}
 use mathlib.Core.List.{List, [], ◌∷◌, ◌++◌}
 use mathlib.Core.Bool.{Bool, true, false}
 use Prim.Native.Nat.{ℕ}
-use Rattle.table_rules.specs.Answer.{is_accepted, Answer, refusal}
+use Rattle.table_rules.specs.Answer.{is_accepted, Answer}
 use Rattle.table_rules.specs.Faults.{first_refusal, unless}
 use Rattle.tree.proofs.Never.{never}
 use Rattle.table_rules.proofs.Says.{All}

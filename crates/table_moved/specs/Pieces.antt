@@ -70,12 +70,12 @@ pub record Inputs (p : Profile) (target keys source : List ℕ) (span : Span) (n
   pub low : 1 ≤ depth
   pub high : depth ≤ 16
 
--- the same before the source is looked at, and, where there is another turn, before the target's and the path's keys are made
-pub record Turn (turns : ℕ) (target keys source : List ℕ) (names : List Name) (depth : ℕ) : Type 0 where
+-- the same where letter case is ignored, before the source is looked at
+pub record ByKeys (target keys source : List ℕ) (names : List Name) (depth : ℕ) : Type 0 where
   pub target-passes : Passes Folded target
   pub source-passes : Passes Folded source
-  pub keyed-target : turns ≡ 0 → keys ≡ keyed Folded target
-  pub named : turns ≡ 0 → map (key Folded) names ≡ names
+  pub keyed-target : keys ≡ keyed Folded target
+  pub named : map (key Folded) names ≡ names
   pub low : 1 ≤ depth
   pub high : depth ≤ 16
 

@@ -11,7 +11,7 @@ use Rattle.tree.proofs.Same.{and-true}
 use Rattle.table_rules.specs.declared.Checked.{Checked}
 use Rattle.table_rules.specs.declared.Checked.TheVariants.{Fine, BadLength, BadRow}
 use Rattle.table_rules.specs.declared.Refusal.{Refusal}
-use Rattle.table_rules.specs.Answer.{is_accepted, Answer, refusal}
+use Rattle.table_rules.specs.Answer.{is_accepted, Answer}
 use Rattle.table_rules.specs.Refusal.{refusal_of}
 use Rattle.table_rules.specs.Faults.{first_refusal, unless, room_rule}
 

@@ -6,8 +6,8 @@ use Rattle.std.specs.Ordering.{is_gt}
 use mathlib.Core.List.{List, [], ◌∷◌, map}
 use native.Mathlib.Omega.{arith}
 use native.Mathlib.Numerals.{add-one}
-use lib.ListN.{length, take, drop, get_or, length-take, length-drop}
-use Prim.Native.Nat.{ℕ, zero, suc, ◌+◌, ◌*◌, ◌-◌, ◌/◌, ◌≤◌, ◌<◌, Ordering}
+use lib.ListN.{length, drop, get_or, length-take, length-drop}
+use Prim.Native.Nat.{ℕ, zero, suc, ◌+◌, ◌*◌, ◌/◌, ◌≤◌, ◌<◌, Ordering}
 use borrow.Author.Tests.{lt-ltb, le-ltb, eq-eqb, ne_eqb}
 use Rattle.tree.specs.Name.{Name, cmp, by_order}
 use Rattle.tree.specs.declared.Profile.{Profile}
@@ -17,7 +17,7 @@ use Rattle.table_row.specs.Order.{ordered}
 use Rattle.std.specs.declared.cmp.Ordering.{Ordering as Order}
 use Rattle.std.specs.declared.cmp.Ordering.TheVariants.{Less, Equal, Greater}
 use Rattle.table_row.specs.Keyed.{keyed_row, keyed}
-use Rattle.table_row.proofs.Table.{rows-cons, rows-nil, name-part, depth-at}
+use Rattle.table_row.proofs.Table.{rows-cons, rows-nil, depth-at}
 use Rattle.table_row.proofs.Keyed.{HasKey, has_key, rows-keyed}
 use Rattle.table_stands.proofs.Rows.{head}
 use Rattle.table_slot.specs.Insert.{against, start_of, spot_in}

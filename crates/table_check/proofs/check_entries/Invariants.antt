@@ -1,5 +1,5 @@
 -- `table_check::check_entries` meets its contract: the rows before row i are good, the lowest twin among them is told, and the
-use Prim.Native.Nat.{◌-◌, ◌≤◌, ◌<◌}
+use Prim.Native.Nat.{◌≤◌, ◌<◌}
 use Rattle.table_rules.specs.Keyed.{ok_row_in, no_twin}
 use Rattle.table_rules.proofs.Rows.{Passed, Told}
 use Rattle.table_check.specs.Last.{Lasts}

@@ -1,7 +1,7 @@
 -- `table_compare::compare_keys` meets its contract: the words of the keys before word k are the same.
 use mathlib.Core.Path.{◌≡◌}
 use lib.ListN.{length, drop}
-use Prim.Native.Nat.{◌≤◌, ◌-◌}
+use Prim.Native.Nat.{◌≤◌}
 use Rattle.tree.specs.Name.{cmp}
 use Rattle.tree.specs.Key.{key}
 use Rattle.table_compare.proofs.compare_keys.Given as goal

@@ -3,7 +3,7 @@ use mathlib.Core.Path.{◌≡◌}
 use mathlib.Core.Bool.{◌&&◌}
 use mathlib.Core.List.{List}
 use lib.ListN.{drop}
-use Prim.Native.Nat.{ℕ, ◌≤◌, ◌-◌}
+use Prim.Native.Nat.{ℕ, ◌≤◌}
 use Rattle.tree.specs.Same.{same_words}
 use Rattle.table_row.specs.Table.{row_at, name}
 use Rattle.table_compare.proofs.same_names.Given as goal

@@ -1,5 +1,5 @@
 -- `find_child` finds the entry: the search goes on from row i.
-use Rattle.std.proofs.Common.{◌≡◌, ◌+◌, ◌*◌, ◌∙◌, sym, ap, drop, get_or, true, false, Bool, List, ℕ}
+use Rattle.std.proofs.Common.{◌≡◌, ◌+◌, ◌*◌, ◌∙◌, sym, ap, drop, get_or, true}
 use borrow.Author.Rules.{rules}
 use Rattle.tree.specs.Same.{same_words}
 use Rattle.tree.proofs.Same.{same_words-slices}

@@ -1,6 +1,6 @@
 -- `same_below` compares two subtrees from their second rows on: the first k rows of each are the same, and both have n.
 use mathlib.Core.Path.{◌≡◌}
-use Prim.Native.Nat.{◌-◌, ◌≤◌}
+use Prim.Native.Nat.{◌≤◌}
 use Rattle.table_find.proofs.Same.{block}
 use Rattle.table_find.proofs.same_below.Given as goal
 

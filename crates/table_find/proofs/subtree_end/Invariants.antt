@@ -1,7 +1,7 @@
 -- `subtree_end` finds the end: the run from row e on and the rows passed are the run from row i + 1 on.
 use mathlib.Core.Path.{◌≡◌}
 use lib.ListN.{length, drop}
-use Prim.Native.Nat.{◌+◌, ◌-◌, ◌/◌, ◌≤◌}
+use Prim.Native.Nat.{◌+◌, ◌/◌, ◌≤◌}
 use Rattle.table_row.specs.Table.{rows}
 use Rattle.table_find.specs.Subtree.{run}
 use Rattle.table_find.proofs.subtree_end.Given as goal

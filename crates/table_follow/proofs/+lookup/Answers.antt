@@ -1,5 +1,5 @@
 -- `lookup` follows the path; the names left fall.
-use Rattle.std.proofs.Common.{sym, ◌<◌, length, rules}
+use Rattle.std.proofs.Common.{sym, rules}
 use Rattle.table_follow.proofs.Follow.{follow-none, follow-lost, follow-on}
 use Rattle.table_follow.proofs.+lookup.Goals as goal
 

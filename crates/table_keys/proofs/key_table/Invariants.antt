@@ -1,7 +1,7 @@
 -- `table_keys::key_table` meets its contract: the rows before row i have their keys, and those from it on are copied.
 use mathlib.Core.Path.{◌≡◌}
 use lib.ListN.{length, drop}
-use Prim.Native.Nat.{◌-◌, ◌≤◌}
+use Prim.Native.Nat.{◌≤◌}
 use Rattle.tree.specs.declared.Profile.TheVariants.{Folded}
 use Rattle.table_row.proofs.Keyed.{mixed}
 use Rattle.table_keys.proofs.key_table.Given as goal

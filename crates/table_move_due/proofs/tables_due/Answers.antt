@@ -3,7 +3,6 @@ use Rattle.std.proofs.Common.{◌≡◌, ◌∙◌, sym, refl, [], ◌∷◌, Ok
 use Rattle.tree.specs.declared.Profile.{Profile}
 use Rattle.table_rules.specs.declared.Refusal.{Refusal}
 use Rattle.table_rules.specs.declared.Seen.{Seen}
-use Rattle.table_rules.specs.Answer.{Answer}
 use Rattle.table_rules.specs.Faults.{first_refusal}
 use Rattle.table_rules.specs.Refusal.{refusal_of, twins_due}
 use Rattle.table_rules.specs.Seen.{Sees}

@@ -1,8 +1,7 @@
 -- `table_names::all_zero` meets its contract: all words are zero where the flag says so of those before the word, and the rest are.
 use mathlib.Core.Path.{◌≡◌}
 use mathlib.Core.Bool.{◌&&◌}
-use lib.ListN.{length, drop}
-use Prim.Native.Nat.{◌-◌}
+use lib.ListN.{drop}
 use Rattle.tree.specs.Rules.{zeros}
 use Rattle.table_names.proofs.all_zero.Given as goal
 

@@ -1,7 +1,7 @@
 -- `table_names::filled_from` meets its contract: byte k decides, or the bytes after it.
 use mathlib.Core.Path.{◌≡◌}
 use lib.ListN.{length, drop}
-use Prim.Native.Nat.{◌-◌, ◌≤◌}
+use Prim.Native.Nat.{◌≤◌}
 use Rattle.tree.specs.Rules.{zero_filled, bytes}
 use Rattle.table_names.proofs.filled_from.Given as goal
 

@@ -1,7 +1,7 @@
 -- `table_names::zero_filled` meets its contract: the words before word k are plain, so those from it on decide.
 use mathlib.Core.Path.{◌≡◌}
 use lib.ListN.{drop}
-use Prim.Native.Nat.{◌-◌, ◌≤◌}
+use Prim.Native.Nat.{◌≤◌}
 use Rattle.tree.specs.Rules.{zero_filled, bytes}
 use Rattle.table_names.proofs.zero_filled.Given as goal
 

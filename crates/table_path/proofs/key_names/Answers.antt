@@ -1,8 +1,7 @@
 -- `table_path::key_names` meets its contract: each name is its key.
-use Rattle.std.proofs.Common.{◌≡◌, ◌<◌, ℕ, length, get_or, [], rules}
+use Rattle.std.proofs.Common.{[], rules}
 use native.Mathlib.Omega.{arith}
 use Rattle.tree.specs.declared.Profile.TheVariants.{Folded}
-use Rattle.tree.specs.Key.{key}
 use Rattle.table_moved.proofs.Names.{all-keys}
 use Rattle.table_path.proofs.key_names.Goals as goal
 

@@ -1,8 +1,7 @@
 -- `place` finds the place: the loop searches on from row i.
 use mathlib.Core.Path.{◌≡◌, sym, ap, ◌∙◌}
-use mathlib.Core.Logic.{⊎_elim}
 use lib.ListN.{length, drop, get_or}
-use Prim.Native.Nat.{◌+◌, ◌*◌, ◌-◌, ◌/◌}
+use Prim.Native.Nat.{◌+◌, ◌*◌, ◌/◌}
 use borrow.Author.Rules.{rules}
 use Rattle.table_row.specs.Table.{rows}
 use Rattle.table_row.proofs.Table.{depth-at}

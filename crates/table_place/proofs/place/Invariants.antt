@@ -1,7 +1,7 @@
 -- `place` finds the place: the loop searches on from row i.
 use mathlib.Core.Path.{◌≡◌}
 use lib.ListN.{drop}
-use Prim.Native.Nat.{◌+◌, ◌-◌, ◌≤◌}
+use Prim.Native.Nat.{◌+◌, ◌≤◌}
 use Rattle.table_row.specs.Table.{rows}
 use Rattle.table_find.specs.Entry.{seek, up_to}
 use Rattle.table_place.proofs.place.Given as goal

@@ -3,7 +3,7 @@
 use Rattle.std.proofs.Common.{None}
 use mathlib.Core.Path.{◌≡◌}
 use lib.ListN.{length, drop, get_or}
-use Prim.Native.Nat.{ℕ, ◌+◌, ◌*◌, ◌-◌, ◌≤◌}
+use Prim.Native.Nat.{ℕ, ◌+◌, ◌*◌, ◌≤◌}
 use Rattle.tree.specs.declared.Profile.TheVariants.{Folded}
 use Rattle.table_row.specs.Buffer.{written}
 use Rattle.table_row.specs.Table.{rows, flat}

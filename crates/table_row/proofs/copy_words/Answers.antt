@@ -1,5 +1,5 @@
 -- `table_row::copy_words` meets its contract: the part that is lent to std's method is written.
-use Rattle.std.proofs.Common.{refl, ◌∙◌, ◌+◌}
+use Rattle.std.proofs.Common.{refl, ◌∙◌}
 use Rattle.std.proofs.lemmas.Slice.{put_mid-paste}
 use native.Mathlib.Omega.{arith}
 use lib.ListN.{length}

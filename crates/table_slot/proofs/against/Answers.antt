@@ -1,13 +1,12 @@
 -- `against` meets its contract: a row by its depth, an entry by its name.
 use mathlib.Core.Path.{◌≡◌, sym, ap}
 use native.Mathlib.Omega.{arith}
-use borrow.Author.Rules.{rules}
 use Prim.Native.Nat.{suc, ◌<◌}
 use Rattle.tree.specs.Key.{key}
-use Rattle.table_row.specs.Table.{row_at, depth, name}
+use Rattle.table_row.specs.Table.{row_at, depth}
 use Rattle.table_row.specs.Order.{ordered}
 use Rattle.table_row.specs.Keyed.{keyed_row}
-use Rattle.table_row.proofs.Table.{depth-at, name-part}
+use Rattle.table_row.proofs.Table.{depth-at}
 use Rattle.table_slot.proofs.Search.{row-has-key, against-over, against-entry, against-deep}
 use Rattle.table_slot.proofs.against.Goals as goal
 

@@ -1,7 +1,7 @@
 -- `spot_from` meets its contract: the search goes on from row i.
 use mathlib.Core.Path.{◌≡◌}
 use lib.ListN.{drop}
-use Prim.Native.Nat.{◌-◌, ◌≤◌}
+use Prim.Native.Nat.{◌≤◌}
 use Rattle.tree.specs.Key.{key}
 use Rattle.table_row.specs.Table.{rows}
 use Rattle.table_row.specs.Keyed.{keyed}

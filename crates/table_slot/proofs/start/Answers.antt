@@ -1,12 +1,7 @@
 -- `start` meets its contract: the entry put in last is passed where the name comes after it.
-use Rattle.std.proofs.Common.{◌≡◌, sym, ◌∙◌, Bool}
+use Rattle.std.proofs.Common.{sym, ◌∙◌}
 use borrow.Author.Tests.{le-ltb}
 use borrow.Author.Rules.{rules}
-use Rattle.std.specs.Ordering.{is_gt}
-use Rattle.tree.specs.Name.{cmp}
-use Rattle.tree.specs.Key.{key}
-use Rattle.table_row.specs.Order.{ordered}
-use Rattle.table_row.specs.Table.{row_at, name}
 use Rattle.table_slot.proofs.Search.{start-past}
 use Rattle.table_slot.proofs.start.Goals as goal
 use Rattle.table_slot.proofs.start.Goals.{else-f-last-via-then-f-last+else-is_gt, else-f-last-via-else-f-last}

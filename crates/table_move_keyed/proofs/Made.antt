@@ -1,0 +1,14 @@
+-- The keys that are made of a table stand at the start of their room.
+use mathlib.Core.Path.{◌≡◌, ap, ◌∙◌}
+use mathlib.Core.List.{List}
+use lib.ListN.{length, take}
+use Prim.Native.Nat.{ℕ}
+use Rattle.tree.specs.declared.Profile.TheVariants.{Folded}
+use Rattle.table_row.specs.Buffer.{over}
+use Rattle.table_row.specs.Keyed.{keyed}
+use Rattle.table_row.proofs.Keyed.{keys-front}
+use Rattle.table_rules.specs.Keyed.{Passes}
+use Rattle.table_rules.proofs.Passed.{passed-whole}
+
+pub keys-are : (w b e : List ℕ) → Passes Folded w → e ≡ over b (keyed Folded w) → take (length w) e ≡ keyed Folded w
+keys-are w b e P h = ap (take (length w)) h ∙ keys-front Folded b w (passed-whole Folded w P)
