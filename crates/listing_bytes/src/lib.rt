@@ -22,7 +22,8 @@ pub fn sort_byte(b: u8) -> Class
     }
 }
 
-// The value of a decimal, octal or hex digit, 16 where it is none.
+// The value of a decimal, octal or hex digit. A byte that is none has 16 and no Option: the definition `digit_value`, under
+// `Digit` here and `digits`, `octal` and `hex_bytes` elsewhere, is this number.
 pub fn digit_value(b: u8) -> u8
     ensures { Digit b result }
 {

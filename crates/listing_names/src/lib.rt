@@ -16,7 +16,8 @@ fn digit_at(word: &[u8], i: usize) -> u8
     16
 }
 
-// The byte that three octal values say, 0 where they say none.
+// The byte that three octal values say. Where they say none it is 0 and no Option, here and in what reads an escape: the
+// definitions `octal` and `spelt_as` are this number.
 fn octal(a: u8, b: u8, c: u8) -> u8
     ensures { result ≡ octal_of a b c }
 {

@@ -31,7 +31,13 @@ fn has_room(count: usize, words: usize) -> bool
 }
 
 // An entry put into the folder last opened: 14, 13 by key, 3.
-pub fn put_row(profile: Profile, t: &mut [u32], s: Reader, name: [u32; 8], c: [u32; 11]) -> Result<Reader, u32>
+pub fn put_row(
+    profile: Profile,
+    t: &mut [u32],
+    s: Reader,
+    name: [u32; 8],
+    c: [u32; 11],
+) -> Result<Reader, u32>
     requires { Ready profile t.old s × (0 < s.depth) × IsContent c }
     ensures { Places profile name c t.old s t.new result }
 {

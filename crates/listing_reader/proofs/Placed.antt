@@ -191,7 +191,7 @@ module _ (p : Profile) (w : List ℕ) (s : Reader) (n : Name) (c : Content) (f :
             (file-in p (most_rows (length w)) w s f q d g h k e n (file c) (s.depth ∷ 1 ∷ (n ++ drop 1 c)) tt refl refl
             (rw h.deep (file-words (suc (length q)) n c ∙ rw u.kind)) l gone.0 fits _ refl refl refl refl refl)
 
-      pub did-put : IsContent c → length n ≡ 8 → true ≡ ltb s.count (most_rows (length w)) 
+      pub did-put : IsContent c → length n ≡ 8 → true ≡ ltb s.count (most_rows (length w))
           → after ≡ inserted w (20 * s.count) (20 * i) (file_row s.depth n c) → Due (Ok (entered s i (get_or c 0 0)))
       did-put x eight v b = rw (by-room true v, b) (go (at_key p f q) refl g.here)
         where

@@ -8,7 +8,7 @@ use listing_keywords::Kind;
 
 // The default type, if one is set; the row of each open folder; the depth that an entry listed now has, 0 where no folder is
 // open; the row last put into the folder last opened, or that folder's own; and the rows so far. What a line makes of it is
-// a Result, whose Err is the number that is due: a plain number, as the answer in C and every clause on a line have it.
+// a Result, whose Err is the number that is due. The rows are an array with its depth beside it, since memory is fixed.
 #[derive(Clone, Copy)]
 pub struct Reader {
     pub default: Option<Kind>,

@@ -1,14 +1,10 @@
 -- `lacks` meets its contract: the words before place i lack the keyword.
-use mathlib.Core.Path.{refl, sym, ◌∙◌}
+use mathlib.Core.Path.{sym, ◌∙◌}
 use native.Mathlib.Omega.{arith}
-use borrow.Author.Rules.{rules}
 use Rattle.listing.specs.Words.{values}
 use Rattle.listing_scan.proofs.Next.{words-none, words-next}
 use Rattle.listing_keywords.proofs.Found.{words-end}
 use Rattle.listing_keywords.proofs.lacks.Goals as goal
-
-pub loop-i-init : goal.loop-i-init
-loop-i-init c = (search rules, refl)
 
 pub returns-then-rest-a : goal.returns-then-rest-a
 unfolding values

@@ -1,7 +1,7 @@
 -- `put_row` meets its contract: where the name goes among the rows in use, and the row put in there.
 use mathlib.Core.Path.{sym, ◌∙◌}
 use lib.ListN.{length-take}
-use Rattle.listing_reader.proofs.Placed.{in_use, less-deep, row_fits, opened-ready, did-deep, did-taken, did-full, did-put}
+use Rattle.listing_reader.proofs.Placed.{in_use, opened-ready, did-deep, did-taken, did-full, did-put}
 use native.Mathlib.Omega.{arith}
 use borrow.Author.Rules.{rules}
 use Rattle.listing_put_row.proofs.put_row.Goals as goal
@@ -11,24 +11,6 @@ returns-then-depth-eq17 c =
     let a = c.args in
     record { does = λ f q v g h. did-deep a.profile a.t.now a.s a.name a.c f q v g h a.t.now c.if-depth-eq17.true }
 
-pub overflow_sub-k : goal.overflow_sub-k
-overflow_sub-k c = let p = c.requires.1 in omega arith
-
-pub overflow_mul-end : goal.overflow_mul-end
-overflow_mul-end c = let k = (in_use c.args.profile c.args.t.now c.args.s (opened-ready _ _ _ c.requires.0 c.requires.1)).few in omega arith
-
-pub slice_bounds-find_spot-end : goal.slice_bounds-find_spot-end
-slice_bounds-find_spot-end c = (in_use c.args.profile c.args.t.now c.args.s (opened-ready _ _ _ c.requires.0 c.requires.1)).rows
-
-pub slice_bounds-find_spot-end-2 : goal.slice_bounds-find_spot-end-2
-slice_bounds-find_spot-end-2 c = let k = (in_use c.args.profile c.args.t.now c.args.s (opened-ready _ _ _ c.requires.0 c.requires.1)).rows in simp length-take (omega arith)
-
-pub offset_bounds-s-k : goal.offset_bounds-s-k
-offset_bounds-s-k c = let k = (in_use c.args.profile c.args.t.now c.args.s (opened-ready _ _ _ c.requires.0 c.requires.1)).deep in omega arith
-
-pub bounds-s-k : goal.bounds-s-k
-bounds-s-k c = let k = (in_use c.args.profile c.args.t.now c.args.s (opened-ready _ _ _ c.requires.0 c.requires.1)).deep in omega arith
-
 pub find_spot-requires : goal.find_spot-requires
 find_spot-requires c =
     let k = in_use c.args.profile c.args.t.now c.args.s (opened-ready _ _ _ c.requires.0 c.requires.1) in
@@ -36,21 +18,6 @@ find_spot-requires c =
     let i = k.row in
     let l = k.last in
     (simp length-take (omega arith), simp length-take (omega arith))
-
-pub row_of-requires : goal.row_of-requires
-row_of-requires c = less-deep _ _ (in_use c.args.profile c.args.t.now c.args.s (opened-ready _ _ _ c.requires.0 c.requires.1)) c.if-depth-eq17.false
-
-pub insert-requires : goal.insert-requires
-insert-requires c =
-    let a = c.args in
-    let f = row_fits a.s.count a.t.now (sym c.if-has_room.true ∙ c.has_room.ensures) in
-    let i = simp length-take at (rw c.in-Some.is at c.find_spot.ensures.inside) in
-    (omega arith, f.0)
-
-pub enter-requires : goal.enter-requires
-enter-requires c =
-    let a = c.args in
-    (less-deep _ _ (in_use c.args.profile c.args.t.now c.args.s (opened-ready _ _ _ c.requires.0 c.requires.1)) c.if-depth-eq17.false, (row_fits a.s.count a.t.now (sym c.if-has_room.true ∙ c.has_room.ensures)).1)
 
 pub returns-then-has_room : goal.returns-then-has_room
 returns-then-has_room c =

@@ -1,13 +1,9 @@
 -- `read` meets its contract: zeroed, then the form, then the lines; zeroed again after a refusal.
 use mathlib.Core.Path.{sym, ap, ◌∙◌}
-use lib.ListN.{length}
 use borrow.Author.Rules.{rules}
 use Rattle.listing_reader.specs.State.{zeroed}
-use Rattle.listing_read_lines.proofs.Answered.{read-accepted, read-formless, read-refused, zeros-all, zeros-long}
+use Rattle.listing_read_lines.proofs.Answered.{read-accepted, read-formless, read-refused, zeros-long}
 use Rattle.listing_read.proofs.read.Goals as goal
-
-pub read_lines-answer-requires : goal.read_lines-answer-requires
-read_lines-answer-requires c = zeros-all _ (length c.args.table.now) c.zero.ensures
 
 pub returns-then-is_err : goal.returns-then-is_err
 returns-then-is_err c =

@@ -2,7 +2,7 @@
 use Rattle.listing_scan.proofs.Next.{lines_next}
 use Rattle.listing_read_lines.proofs.Ended.{table-end}
 use lib.ListN.{length-take, length-drop}
-use Rattle.listing_read_lines.proofs.Going.{going_end, going-first, going-ready, goes_on, refused-lines, stopped}
+use Rattle.listing_read_lines.proofs.Going.{going_end, going-first, goes_on, refused-lines, stopped}
 use native.Mathlib.Omega.{arith}
 use Rattle.listing_read_lines.proofs.read_lines.Goals as goal
 
@@ -10,40 +10,12 @@ pub loop-i-init : goal.loop-i-init
 loop-i-init c =
     (omega arith, omega arith, going-first c.args.profile c.args.text.now c.args.t.now _ c.requires c.fresh-s.ensures)
 
-pub slice_bounds-take_line-count : goal.slice_bounds-take_line-count
-slice_bounds-take_line-count c = let e = c.line_end-e.ensures.is in omega arith
-
-pub slice_bounds-take_line-end : goal.slice_bounds-take_line-end
-slice_bounds-take_line-end c = c.line_end-e.ensures.fits
-
-pub take_line-requires : goal.take_line-requires
-take_line-requires c = going-ready c.loop-i.invariant.2
-
 pub returns-in-Err : goal.returns-in-Err
 returns-in-Err c =
     let v = c.loop-i in
     let e = c.line_end-e in
     let k = c.take_line in
     refused-lines (stopped v.invariant.2 e.result e.ensures.is c.loop-i-test.true _ k.result k.ensures _ c.in-Err.is)
-
-pub slice_bounds-line_ends-count : goal.slice_bounds-line_ends-count
-slice_bounds-line_ends-count c =
-    let e = c.line_end-e.ensures.is in omega arith
-
-pub slice_bounds-line_ends-end : goal.slice_bounds-line_ends-end
-slice_bounds-line_ends-end c = c.line_end-e.ensures.fits
-
-pub overflow_add-line : goal.overflow_add-line
-overflow_add-line c =
-    let v = c.loop-i in
-    let e = c.line_end-e in
-    let n = lines_next v.line c.args.text.now v.i e.result e.ensures.is c.loop-i-test.true in
-    let less = n.some in
-    let fits = n.fits in
-    let ends = simp (length-take, length-drop) at c.line_ends-line.ensures.fits in
-    let low = v.invariant.1 in
-    let good = c.well_formed in
-    omega arith
 
 pub loop-i-smaller : goal.loop-i-smaller
 loop-i-smaller c =

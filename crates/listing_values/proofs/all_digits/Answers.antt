@@ -1,5 +1,4 @@
 -- `all_digits` meets its contract: the flag says it of the values before place i.
-use mathlib.Core.Path.{refl}
 use mathlib.Core.Bool.{and-true}
 use native.Mathlib.Omega.{arith}
 use lib.ListN.{drop_of_length-le}
@@ -7,9 +6,6 @@ use Rattle.std.proofs.lemmas.Bool.Decides.{nat_tests}
 use Rattle.listing_values.specs.Values.{all_below}
 use Rattle.listing_values.proofs.Digests.{below-first}
 use Rattle.listing_values.proofs.all_digits.Goals as goal
-
-pub loop-d-init : goal.loop-d-init
-loop-d-init c = refl
 
 pub loop-d-preserved : goal.loop-d-preserved
 loop-d-preserved c =

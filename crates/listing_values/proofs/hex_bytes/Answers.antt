@@ -1,11 +1,7 @@
 -- `hex_bytes` meets its contract: what the digits say is what their values do.
 use mathlib.Core.Path.{sym, ◌∙◌}
-use borrow.Author.Rules.{rules}
 use Rattle.listing_values.proofs.Digests.{digits-below, bytes-pairs}
 use Rattle.listing_values.proofs.hex_bytes.Goals as goal
-
-pub packed_pairs-requires : goal.packed_pairs-requires
-packed_pairs-requires c = (search rules, sym c.all_digits.ensures ∙ c.if-all_digits.true)
 
 pub returns-then-all_digits : goal.returns-then-all_digits
 returns-then-all_digits c =

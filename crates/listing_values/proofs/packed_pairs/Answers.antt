@@ -1,14 +1,11 @@
 -- `packed_pairs` meets its contract: the first i bytes are what the values before place 2 * i say.
-use mathlib.Core.Path.{refl, ap}
+use mathlib.Core.Path.{ap}
 use native.Mathlib.Omega.{arith}
 use lib.ListN.{drop_of_length-le}
 use Prim.Native.Nat.{◌+◌, ◌*◌}
 use Rattle.listing_values.specs.Values.{pairs}
-use Rattle.listing_values.proofs.Digests.{fill_none, fill_one, filled, pair-first, each_below}
+use Rattle.listing_values.proofs.Digests.{fill_one, filled, pair-first, each_below}
 use Rattle.listing_values.proofs.packed_pairs.Goals as goal
-
-pub loop-i-init : goal.loop-i-init
-loop-i-init c = fill_none refl
 
 pub overflow_mul-bytes-in-loop-i : goal.overflow_mul-bytes-in-loop-i
 overflow_mul-bytes-in-loop-i c =

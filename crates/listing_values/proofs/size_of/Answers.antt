@@ -1,5 +1,5 @@
 -- `size_of` meets its contract: the digits before place i say v, and v fits 64 bits.
-use mathlib.Core.Path.{◌≡◌, refl, ap, ◌∙◌}
+use mathlib.Core.Path.{◌≡◌, ap, ◌∙◌}
 use native.Mathlib.Omega.{arith}
 use lib.ListN.{drop, get_or, drop_of_length-le}
 use Prim.Native.Nat.{◌+◌, ◌*◌, ◌≤◌, ◌<◌}
@@ -15,9 +15,6 @@ returns-then-value-eq0 c = (size-empty _ c.if-value-eq0.true)
 
 pub returns-then-value-gt20 : goal.returns-then-value-gt20
 returns-then-value-gt20 c = (size-long _ c.if-value-gt20.true)
-
-pub loop-b-init : goal.loop-b-init
-loop-b-init c = (search rules, refl, refl)
 
 pub returns-then-d-gt9 : goal.returns-then-d-gt9
 returns-then-d-gt9 c =
