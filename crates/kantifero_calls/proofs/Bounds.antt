@@ -1,4 +1,5 @@
 -- The places of answers: a row of a table, or the rows or bytes written.
+use Rattle.std.proofs.Common.{Ok, Err}
 use mathlib.Core.Path.{◌≡◌, refl}
 use mathlib.Core.List.{List, [], ◌∷◌}
 use mathlib.Core.Bool.{Bool, true, false, cond, ◌&&◌}
@@ -13,11 +14,9 @@ use Rattle.tree.specs.declared.Profile.TheVariants.{Exact, Folded}
 use Rattle.tree.proofs.Same.{and-true}
 use Rattle.table_row.specs.Table.{Row, rows}
 use Rattle.table_row.specs.Tree.{tree_of}
-use Rattle.table_rules.specs.declared.Answer.{Answer}
-use Rattle.table_rules.specs.declared.Answer.TheVariants.{Accepted, Refused}
 use Rattle.table_rules.specs.declared.Checked.{Checked}
 use Rattle.table_rules.specs.declared.Checked.TheVariants.{Fine, BadLength, BadRow}
-use Rattle.table_rules.specs.Answer.{place_of, is_accepted}
+use Rattle.table_rules.specs.Answer.{place_of, is_accepted, Answer, refusal}
 use Rattle.table_rules.specs.Refusal.{refusal_of, twins_due}
 use Rattle.table_rules.specs.Rules.{sized}
 use Rattle.table_rules.specs.Keyed.{ok_row_in, no_twin, lead_by, lowest, checked_in, twins}
@@ -65,8 +64,8 @@ unless-place false number side = omega arith
 -- of the first refusal; of one that comes only after others were passed
 pub first-place : (n : ℕ) (a : Answer) (xs : List Answer) (last : Answer) → place_of a ≤ n → (is_accepted a ≡ true → place_of (first_refusal xs last) ≤ n) → place_of (first_refusal (a ∷ xs) last) ≤ n
 unfolding first_refusal
-first-place n (Accepted q) xs last h k = k refl
-first-place n (Refused m s q) xs last h k = h
+first-place n (Ok q) xs last h k = k refl
+first-place n (Err r) xs last h k = h
 
 pub last-place : (n : ℕ) (a last : Answer) → place_of a ≤ n → (is_accepted a ≡ true → place_of last ≤ n) → place_of (first_refusal (a ∷ []) last) ≤ n
 unfolding first_refusal
@@ -94,7 +93,7 @@ module _ (p : Profile) (target source : List ℕ) (names : List Name) (depth : �
       (λ c.
       first-place 4096 (unless (parent_rule p target names depth) 4 0) _ _ (unless-place (parent_rule p target names depth) 4 0)
       (λ d.
-      last-place 4096 (unless (room_rule n (length lent)) 3 2) (Accepted n) (unless-place (room_rule n (length lent)) 3 2)
+      last-place 4096 (unless (room_rule n (length lent)) 3 2) (Ok n) (unless-place (room_rule n (length lent)) 3 2)
       (λ e. (room-parts n (length lent) (unless-true (room_rule n (length lent)) 3 2 e)).0)))))))
 
 -- a writing's: a row, or the bytes of the text
@@ -102,7 +101,7 @@ pub write-place : (p : Profile) (w : List ℕ) (room : ℕ) → place_of (answer
 unfolding answer_due fits
 write-place p w room = last-place 65536 (check_due p w) _ (omega (arith, check-place p w)) (λ h. text (fits (length (text_of (tree_of w))) room) refl)
   where
-    text : (b : Bool) → fits (length (text_of (tree_of w))) room ≡ b → place_of (cond b (Accepted (length (text_of (tree_of w)))) (Refused 3 1 0)) ≤ 65536
+    text : (b : Bool) → fits (length (text_of (tree_of w))) room ≡ b → place_of (cond b (Ok (length (text_of (tree_of w)))) (Err (refusal 3 1 0))) ≤ 65536
     text true e =
         let s = length (text_of (tree_of w)) in
         omega (arith, leb-true s 65536 (and-true (leb s 65536) (leb s room) e).0)

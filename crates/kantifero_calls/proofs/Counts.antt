@@ -1,4 +1,5 @@
 -- A reconciliation's place and counts have 32 bits: a row, at most 4,096 rows, at most 12,285 list entries.
+use Rattle.std.proofs.Common.{Ok, Err}
 use mathlib.Core.Path.{◌≡◌, refl}
 use mathlib.Core.List.{List}
 use mathlib.Core.Bool.{true}
@@ -13,9 +14,7 @@ use Rattle.tree.specs.declared.Profile.{Profile}
 use Rattle.tree.specs.Key.{fold}
 use Rattle.tree.proofs.Folds.{size-fold}
 use Rattle.table_row.specs.Tree.{tree_of}
-use Rattle.table_rules.specs.declared.Answer.{Answer}
-use Rattle.table_rules.specs.declared.Answer.TheVariants.{Accepted, Refused}
-use Rattle.table_rules.specs.Answer.{place_of, is_accepted}
+use Rattle.table_rules.specs.Answer.{place_of, is_accepted, Answer}
 use Rattle.table_rules.specs.Refusal.{refusal_of, twins_due}
 use Rattle.table_rules.specs.Keyed.{checked_in, twins, Passes}
 use Rattle.table_rules.specs.Faults.{unless, room_rule}
@@ -76,14 +75,13 @@ module _ (p : Profile) (o l r : List ℕ) (b : Lent) where
     run-narrow = go (run_due p o l r b) run-place (passed p o l r b)
       where
         go : (a : Answer) → place_of a ≤ 4096 → (is_accepted a ≡ true → Passed p o l r b) → Narrow (answer_with a (counts_of (given p o l r)))
-        go (Accepted q) h k =
+        go (Ok q) h k =
             let P = k refl in
             let e = entries P in
             record {
-              place = omega arith;
               archive = omega (arith, P.room.archive.0);
               left = omega (arith, P.room.left.0);
               right = omega (arith, P.room.right.0);
               list = omega arith;
             }
-        go (Refused n s q) h k = record { place = omega arith; archive = omega arith; left = omega arith; right = omega arith; list = omega arith }
+        go (Err r) h k = omega arith

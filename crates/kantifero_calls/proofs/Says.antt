@@ -5,10 +5,9 @@ use native.Mathlib.Omega.{arith}
 use lib.ListN.{length}
 use Prim.Native.Nat.{ℕ}
 use Rattle.tree.specs.declared.Profile.{Profile}
-use Rattle.table_rules.specs.declared.Answer.{Answer}
-use Rattle.table_rules.specs.Answer.{Says}
+use Rattle.table_rules.specs.Answer.{Says, Answer}
 use Rattle.plan_tally.specs.declared.Tally.{Tally}
-use Rattle.plan_run.specs.declared.Reconciled.{Reconciled}
+use Rattle.plan_run.specs.Answer.{Reconciled}
 use Rattle.plan_run.specs.Run.{Lent, lent, ReconcileContract}
 use Rattle.kantifero_calls.specs.Words.{eight, answer_words, reconciled_words, tally_words, tally_in}
 use Rattle.kantifero_calls.specs.Calls.{ReconcileCall}

@@ -1,12 +1,12 @@
 -- The eight words of an answer: number, side and place; for an accepted reconciliation its four counts; else zeros.
-use Rattle.std.specs.Prelude.{List, [], ◌∷◌, cond, eqb, get_or, ℕ, ◌<◌}
+use Rattle.std.specs.Prelude.{List, [], ◌∷◌, cond, eqb, get_or, ℕ, ◌<◌, Ok, Err}
 use Rattle.tree.specs.declared.Profile.{Profile}
 use Rattle.tree.specs.declared.Profile.TheVariants.{Exact, Folded}
-use Rattle.table_rules.specs.declared.Answer.{Answer}
-use Rattle.table_rules.specs.Answer.{number_of, side_of, place_of}
+use Rattle.table_rules.specs.Answer.{number_of, side_of, place_of, Answer}
 use Rattle.table_rules.specs.Contract.{check_due}
 use Rattle.plan_tally.specs.declared.Tally.{Tally}
-use Rattle.plan_run.specs.declared.Reconciled.{Reconciled}
+use Rattle.plan_run.specs.declared.Counts.{Counts}
+use Rattle.plan_run.specs.Answer.{Reconciled}
 
 -- a profile as a word: 0 every byte counts, any other letter case is ignored
 unfoldable pub profile_of : ℕ → Profile
@@ -25,15 +25,20 @@ check_words p t = answer_words (check_due p t)
 
 -- words 3 to 6 are the rows of the new archive, left and right, and the list's entries
 abbrev pub reconciled_words : Reconciled → List ℕ
-reconciled_words a = a.number ∷ a.side ∷ a.place ∷ a.archive ∷ a.left ∷ a.right ∷ a.list ∷ 0 ∷ []
+reconciled_words (Ok n) = 0 ∷ 0 ∷ 0 ∷ n.archive ∷ n.left ∷ n.right ∷ n.list ∷ 0 ∷ []
+reconciled_words (Err r) = eight r.number r.side r.place
+
+-- counts of 32 bits
+pub record NarrowCounts (n : Counts) : Type 0 where
+  pub archive : n.archive < 4294967296
+  pub left : n.left < 4294967296
+  pub right : n.right < 4294967296
+  pub list : n.list < 4294967296
 
 -- each of its places and counts has 32 bits
-pub record Narrow (a : Reconciled) : Type 0 where
-  pub place : a.place < 4294967296
-  pub archive : a.archive < 4294967296
-  pub left : a.left < 4294967296
-  pub right : a.right < 4294967296
-  pub list : a.list < 4294967296
+abbrev pub Narrow : Reconciled → Type 0
+Narrow (Ok n) = NarrowCounts n
+Narrow (Err r) = r.place < 4294967296
 
 -- a tally as three words, and three words read as a tally
 abbrev pub tally_words : Tally → List ℕ

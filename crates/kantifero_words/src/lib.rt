@@ -7,7 +7,7 @@ ghost use Rattle.kantifero_calls.specs.Words.{profile_of, eight, answer_words, r
 ghost use Rattle.kantifero_calls.specs.Carried.{part_words, Within};
 
 use plan_run::Reconciled;
-use table_rules::Answer;
+use table_rules::{Answer, Refusal};
 use tree::Profile;
 
 // 0 every byte counts, any other word letter case is ignored.
@@ -35,18 +35,22 @@ fn three_words(number: u32, side: u32, place: u32) -> [u32; 8]
     [number, side, place, 0, 0, 0, 0, 0]
 }
 
+// The words of a refusal.
+fn refusal_words(r: Refusal) -> [u32; 8]
+    requires { r.place < 4294967296 }
+    ensures { result ≡ eight r.number r.side r.place }
+{
+    three_words(r.number, r.side, narrow(r.place))
+}
+
 // The words of an answer that has one place.
 pub fn answer_words(a: Answer) -> [u32; 8]
     requires { place_of a < 4294967296 }
     ensures { result ≡ answer_words a }
 {
     match a {
-        Answer::Accepted { place } => three_words(0, 0, narrow(place)),
-        Answer::Refused {
-            number,
-            side,
-            place,
-        } => three_words(number, side, narrow(place)),
+        Ok(place) => three_words(0, 0, narrow(place)),
+        Err(refusal) => refusal_words(refusal),
     }
 }
 
@@ -55,16 +59,19 @@ pub fn reconciled_words(a: Reconciled) -> [u32; 8]
     requires { Narrow a }
     ensures { result ≡ reconciled_words a }
 {
-    [
-        a.number,
-        a.side,
-        narrow(a.place),
-        narrow(a.archive),
-        narrow(a.left),
-        narrow(a.right),
-        narrow(a.list),
-        0,
-    ]
+    match a {
+        Ok(n) => [
+            0,
+            0,
+            0,
+            narrow(n.archive),
+            narrow(n.left),
+            narrow(n.right),
+            narrow(n.list),
+            0,
+        ],
+        Err(refusal) => refusal_words(refusal),
+    }
 }
 
 // The words that say where n words of the rows to carry stand, which are none or those of the entry's source.

@@ -26,7 +26,7 @@ pub enum Decision {
     Clash(Rows),
 }
 
-// No table has this row.
+// No table has this row. It is a number and no Option, since the list holds it where a path has no row.
 const NONE: u32 = 4294967295;
 
 // Whether a table has row i.

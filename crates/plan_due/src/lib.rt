@@ -34,8 +34,11 @@ pub fn tables_due(profile: Profile, o: &[u32], l: &[u32], r: &[u32]) -> Answer
 pub fn rooms_due(c: Counts, archive: usize, left: usize, right: usize, list: usize) -> Answer
     ensures { result ≡ rooms_due c archive left right list }
 {
-    table_answers::unless_refused(table_answers::has_room(c.archive, archive), 3, 1)?;
-    table_answers::unless_refused(table_answers::has_room(c.left, left), 3, 2)?;
-    table_answers::unless_refused(table_answers::has_room(c.right, right), 3, 3)?;
+    let first = table_answers::has_room(c.archive, archive);
+    let second = table_answers::has_room(c.left, left);
+    let third = table_answers::has_room(c.right, right);
+    table_answers::unless_refused(first, 3, 1)?;
+    table_answers::unless_refused(second, 3, 2)?;
+    table_answers::unless_refused(third, 3, 3)?;
     table_answers::unless_refused(c.list <= list / 3, 3, 4)
 }

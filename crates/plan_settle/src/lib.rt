@@ -12,7 +12,8 @@ use tree::Profile;
 
 // The plan of three tables of which the first is to be keyed, and n more after it, at the start of a buffer; how many words
 // it has. The keys are made in one of three sizes, since zeroing the largest would be most of the time of small tables. Each
-// call has one table's keys, so that a run that needs none has no room for them.
+// call has one table's keys, so that a run that needs none has no room for them. The size is no const parameter: functions of
+// one cycle have to have the same parameters.
 #[cycle(settle_keyed_settle_with)]
 fn settle_keyed(n: usize, t: Tables, plan: &mut [u32]) -> usize
     requires { length (settled_after n t.o.now t.l.now t.r.now) ≤ length plan.old }

@@ -9,7 +9,8 @@ ghost use Rattle.plan_results.specs.Pieces.{new_tree};
 use plan_cursor::Tables;
 use plan_results::Tree;
 
-// How many words a new tree has. A plan has no more items than the three tables have rows, 12,288 at most.
+// How many words a new tree has. A plan has no more items than the three tables have rows, 12,288 at most. To count and to write
+// stay two loops, in the list too: they share their laws, and one loop over a closure would have to say what each call leaves.
 pub fn count_tree(t: Tables, tree: Tree, plan: &[u32]) -> usize
     requires in_bounds { 20 ≤ length t.l.now }
     requires few { length plan.now ≤ 49152 }

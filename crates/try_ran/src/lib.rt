@@ -19,7 +19,10 @@ pub fn room(line: &[u8], k: usize, most: usize) -> usize
 // What was answered, and the tally.
 pub fn print_ran(rt: &impl Print, ran: Ran) -> io::Result<()> {
     match ran.answer {
-        Ok(n) => print!(rt; " 0 0 0 counts {} {} {} {}", n.archive, n.left, n.right, n.list)?,
+        Ok(n) => print!(rt;
+            " 0 0 0 counts {} {} {} {}",
+            n.archive, n.left, n.right, n.list
+        )?,
         Err(r) => print!(rt; " {} {} {} counts 0 0 0 0", r.number, r.side, r.place)?,
     }
     let t = ran.tally;

@@ -3,13 +3,13 @@ use mathlib.Core.Path.{◌∙◌}
 use Rattle.kantifero_words.proofs.answer_words.Goals as goal
 
 pub narrow-requires : goal.narrow-requires
-narrow-requires c = rw c.in-Accepted.is at c.requires
+narrow-requires c = rw c.in-Ok.is at c.requires
 
-pub narrow-requires-in-Refused : goal.narrow-requires-in-Refused
-narrow-requires-in-Refused c = rw c.in-Refused.is at c.requires
+pub refusal_words-requires : goal.refusal_words-requires
+refusal_words-requires c = rw c.in-Err.is at c.requires
 
-pub returns-in-Accepted : goal.returns-in-Accepted
-returns-in-Accepted c = rw c.in-Accepted.is (c.three_words.ensures ∙ rw c.narrow.ensures)
+pub returns-in-Ok : goal.returns-in-Ok
+returns-in-Ok c = rw c.in-Ok.is (c.three_words.ensures ∙ rw c.narrow.ensures)
 
-pub returns-in-Refused : goal.returns-in-Refused
-returns-in-Refused c = rw c.in-Refused.is (c.three_words-in-Refused.ensures ∙ rw c.narrow-in-Refused.ensures)
+pub returns-in-Err : goal.returns-in-Err
+returns-in-Err c = rw c.in-Err.is c.refusal_words.ensures

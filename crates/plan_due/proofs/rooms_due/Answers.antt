@@ -8,7 +8,7 @@ pub returns-in_err-unless_refused : goal.returns-in_err-unless_refused
 unfolding rooms_due first_refusal
 returns-in_err-unless_refused c =
     let e : c.from_residual.result ≡ c.unless_refused.result = search rules in
-    rw (e, ← c.has_room.ensures, ← c.unless_refused.ensures, c.in_err-unless_refused.was) refl
+    rw (e, ← c.has_room-first.ensures, ← c.unless_refused.ensures, c.in_err-unless_refused.was) refl
 
 pub returns-in_err-unless_refused-2 : goal.returns-in_err-unless_refused-2
 unfolding rooms_due first_refusal
@@ -16,10 +16,10 @@ returns-in_err-unless_refused-2 c =
     let e : c.from_residual-in_err-unless_refused-2.result ≡ c.unless_refused-2.result = search rules in
     rw (
       e,
-      ← c.has_room.ensures,
+      ← c.has_room-first.ensures,
       ← c.unless_refused.ensures,
       c.in_ok-unless_refused.was,
-      ← c.has_room-2.ensures,
+      ← c.has_room-second.ensures,
       ← c.unless_refused-2.ensures,
       c.in_err-unless_refused-2.was,
     )
@@ -31,13 +31,13 @@ returns-in_err-unless_refused-3 c =
     let e : c.from_residual-in_err-unless_refused-3.result ≡ c.unless_refused-3.result = search rules in
     rw (
       e,
-      ← c.has_room.ensures,
+      ← c.has_room-first.ensures,
       ← c.unless_refused.ensures,
       c.in_ok-unless_refused.was,
-      ← c.has_room-2.ensures,
+      ← c.has_room-second.ensures,
       ← c.unless_refused-2.ensures,
       c.in_ok-unless_refused-2.was,
-      ← c.has_room-3.ensures,
+      ← c.has_room-third.ensures,
       ← c.unless_refused-3.ensures,
       c.in_err-unless_refused-3.was,
     )
@@ -47,13 +47,13 @@ pub returns : goal.returns
 unfolding rooms_due first_refusal
 returns c =
     rw (
-      ← c.has_room.ensures,
+      ← c.has_room-first.ensures,
       ← c.unless_refused.ensures,
       c.in_ok-unless_refused.was,
-      ← c.has_room-2.ensures,
+      ← c.has_room-second.ensures,
       ← c.unless_refused-2.ensures,
       c.in_ok-unless_refused-2.was,
-      ← c.has_room-3.ensures,
+      ← c.has_room-third.ensures,
       ← c.unless_refused-3.ensures,
       c.in_ok-unless_refused-3.was,
     )
