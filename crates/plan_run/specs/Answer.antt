@@ -1,5 +1,5 @@
 -- The answer of a reconciliation: the four counts of an accepted one, or document 01's number, side and place.
-use Rattle.std.specs.Prelude.{ℕ, Result, Ok, Err}
+use Rattle.std.specs.Prelude.{Result, Ok, Err}
 use Rattle.table_rules.specs.declared.Refusal.{Refusal}
 use Rattle.table_rules.specs.Answer.{Answer}
 use Rattle.plan_run.specs.declared.Counts.{Counts}
