@@ -1,5 +1,5 @@
 -- The answer of a reconciliation: the four counts of an accepted one, or document 01's number, side and place.
-use Rattle.std.specs.Prelude.{ℕ, Result, Ok, Err}
+use Rattle.std.specs.Prelude.{Result, Ok, Err}
 use Rattle.table_rules.specs.declared.Refusal.{Refusal}
 use Rattle.table_rules.specs.Answer.{Answer}
 use Rattle.plan_run.specs.declared.Counts.{Counts}
@@ -12,8 +12,3 @@ Reconciled = Result Counts Refusal
 abbrev pub answer_with : Answer → Counts → Reconciled
 answer_with (Ok p) n = Ok n
 answer_with (Err r) n = Err r
-
--- the entries of the list; none where it is refused
-abbrev pub entries_of : Reconciled → ℕ
-entries_of (Ok n) = n.list
-entries_of (Err r) = 0

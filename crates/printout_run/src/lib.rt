@@ -1,16 +1,14 @@
 // What is printed for three tables: their plan.
 #![tactic(auto)]
 
-ghost use Rattle.std.specs.Prelude.{◌≡◌, ◌≤◌, ◌^◌, length};
+ghost use Rattle.std.specs.Prelude.{◌≤◌, ◌^◌, length};
 ghost use Rattle.table_row.specs.Tree.{tree_of};
 ghost use Rattle.listing_spell.specs.Puts.{Puts};
-ghost use Rattle.plan_run.specs.Answer.{entries_of};
 ghost use Rattle.plan_text.specs.Words.{plan_bytes};
 ghost use Rattle.plan_text.specs.Spelled.{run_text};
 ghost use Rattle.printout_text.specs.Tables.{IsTable};
 
 use listing_spell::Text;
-use plan_run::Reconciled;
 use tree::Profile;
 
 // A list and its tally as text in lent bytes, from the first one on.
@@ -21,16 +19,6 @@ fn put_plan(out: &mut [u8], list: &[u32], l: &[u32], r: &[u32], tally: plan_tall
     let mut text = Text { out, at: 0 };
     plan_text_put::put_plan(&mut text, list, l, r, tally);
     text.at
-}
-
-// The entries of the list that a run made; none where it is refused.
-fn entries(answer: Reconciled) -> usize
-    ensures { result ≡ entries_of answer }
-{
-    match answer {
-        Ok(made) => made.list,
-        Err(_) => 0,
-    }
 }
 
 // The plan of three tables: 382 rows hold any result of theirs, and as many entries any list.
@@ -58,6 +46,7 @@ pub fn put_run(profile: Profile, out: &mut [u8], o: &[u32], l: &[u32], r: &[u32]
         &mut list,
         none,
     );
-    let end = 3 * entries(ran.answer);
+    let counts = ran.answer.unwrap();
+    let end = 3 * counts.list;
     put_plan(out, &list[..end], l, r, ran.tally)
 }

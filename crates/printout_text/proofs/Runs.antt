@@ -1,6 +1,6 @@
 -- Three tables of at most 128 rows: 382 rows and as many entries hold every result, and the list's text is short.
 use Rattle.std.proofs.Common.{Ok}
-use mathlib.Core.Path.{◌≡◌, ◌∙◌}
+use mathlib.Core.Path.{◌≡◌, ap, ◌∙◌}
 use mathlib.Core.List.{List}
 use native.Mathlib.Omega.{arith}
 use lib.ListN.{length, take}
@@ -23,14 +23,19 @@ use Rattle.listing_spell.specs.Puts.{Puts}
 use Rattle.plan.specs.Items.{list_words}
 use Rattle.plan.proofs.Bound.{Takes, result-bound, lines-bound}
 use Rattle.plan_tally.specs.Count.{tally_of}
-use Rattle.plan_run.specs.Answer.{Reconciled, entries_of}
-use Rattle.plan_run.specs.Run.{given, Lent, ReconcileContract, run_due, run_of}
+use Rattle.plan_run.specs.declared.Counts.{Counts}
+use Rattle.plan_run.specs.Answer.{Reconciled}
+use Rattle.plan_run.specs.Run.{given, counts_of, Lent, ReconcileContract, run_due, run_of}
 use Rattle.plan_run.proofs.Accepted.{Room, accepted}
 use Rattle.plan_text.specs.Words.{plan_bytes}
 use Rattle.plan_text.specs.Spelled.{run_text}
 use Rattle.plan_text.proofs.Length.{run_length}
 use Rattle.plan_text.proofs.Lines.{list-part, run-text}
 use Rattle.printout_text.specs.Tables.{IsTable}
+
+-- an answer is accepted with one count
+one_count : (a : Reconciled) (n m : Counts) → a ≡ Ok n → a ≡ Ok m → n ≡ m
+one_count a n m e f = cc
 
 -- a table's tree
 module _ (p : Profile) (w : List ℕ) (T : IsTable p w) where
@@ -128,9 +133,9 @@ module _ (p : Profile) (o l r : List ℕ) (O : IsTable p o) (L : IsTable p l) (R
     due : run_due p o l r b ≡ Ok 0
     due = accepted p o l r b (record { archive-passes = passes p o O; left-passes = passes p l L; right-passes = passes p r R; room = room b A })
 
-    pub entries : entries_of answer ≡ length (given p o l r).lines
+    pub accepts : answer ≡ Ok (counts_of (given p o l r))
     unfolding run_of
-    entries = rw (C.answered, due)
+    accepts = rw (C.answered, due)
 
     listed : a.list ≡ over b.list (list_words fl fr (given p o l r).lines)
     unfolding run_of
@@ -140,16 +145,21 @@ module _ (p : Profile) (o l r : List ℕ) (O : IsTable p o) (L : IsTable p l) (R
     unfolding run_of
     counted = rw (C.left_in, due)
 
-    pub entries-few : 3 * entries_of answer ≤ 1146
-    entries-few = let h = sum in let n = lines-bound fo fl fr so sl sr in rw entries (omega arith)
+    -- the counts that it is accepted with
+    module _ (n : Counts) (is : answer ≡ Ok n) where
+      entries : n.list ≡ length (given p o l r).lines
+      entries = ap (λ (m : Counts). m.list) (one_count answer n (counts_of (given p o l r)) is accepts)
 
-    -- what is put for the entries that the answer counts is the plan
-    pub put-plan : (d : List ℕ) (most next : ℕ) (after : List ℕ) → Words32 l → Words32 r → Puts d 0 (plan_bytes l r (take (3 * entries_of answer) a.list) a.tally) most next after
-        → Puts d 0 (run_text p (tree_of o) (tree_of l) (tree_of r)) 1048576 next after
-    put-plan d most next after wl wr q =
-        let e : plan_bytes l r (take (3 * entries_of answer) a.list) a.tally ≡ run_text p (tree_of o) (tree_of l) (tree_of r) =
-        rw (entries, listed, counted, list-part fl fr b.list (given p o l r).lines) (run-text p l r (passes p l L) (passes p r R) wl wr o) in
-        let u = rw e at q in
-        let n = run_length p (tree_of o) (tree_of l) (tree_of r) (formed p o O) (formed p l L) (formed p r R) in
-        let c = u.counted in
-        record { counted = c; near = omega (arith, few p o O, few p l L, few p r R); holds = u.holds }
+      pub entries-few : 3 * n.list ≤ 1146
+      entries-few = let h = sum in let m = lines-bound fo fl fr so sl sr in rw entries (omega arith)
+
+      -- what is put for the entries that the answer counts is the plan
+      pub put-plan : (d : List ℕ) (most next : ℕ) (after : List ℕ) → Words32 l → Words32 r → Puts d 0 (plan_bytes l r (take (3 * n.list) a.list) a.tally) most next after
+          → Puts d 0 (run_text p (tree_of o) (tree_of l) (tree_of r)) 1048576 next after
+      put-plan d most next after wl wr q =
+          let e : plan_bytes l r (take (3 * n.list) a.list) a.tally ≡ run_text p (tree_of o) (tree_of l) (tree_of r) =
+          rw (entries, listed, counted, list-part fl fr b.list (given p o l r).lines) (run-text p l r (passes p l L) (passes p r R) wl wr o) in
+          let u = rw e at q in
+          let m = run_length p (tree_of o) (tree_of l) (tree_of r) (formed p o O) (formed p l L) (formed p r R) in
+          let c = u.counted in
+          record { counted = c; near = omega (arith, few p o O, few p l L, few p r R); holds = u.holds }

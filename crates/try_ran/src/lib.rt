@@ -3,7 +3,7 @@
 
 ghost use Rattle.std.specs.Prelude.{◌≤◌};
 
-use plan_run::{Counts, Ran, Reconciled};
+use plan_run::Ran;
 use std::io;
 
 // The words of a room: those in field k of a line, or all of it where the line has no such field.
@@ -16,38 +16,17 @@ pub fn room(line: &[u8], k: usize, most: usize) -> usize
     try_fields::count(line, k).min(most)
 }
 
-// What a run made; nothing where it is refused.
-fn counts(answer: Reconciled) -> Counts {
-    let none = Counts {
-        archive: 0,
-        left: 0,
-        right: 0,
-        list: 0,
-    };
-    answer.unwrap_or(none)
-}
-
-// What was answered, and the tally. It hands back what the run made.
-pub fn print_ran(rt: &impl Print, ran: Ran) -> io::Result<Counts> {
-    if let Err(refusal) = ran.answer {
-        try_show::print_number(rt, refusal.number as usize)?;
-        try_show::print_number(rt, refusal.side as usize)?;
-        try_show::print_number(rt, refusal.place)?;
-    } else {
-        try_show::print(rt, b" 0 0 0")?;
+// What was answered, and the tally.
+pub fn print_ran(rt: &impl Print, ran: Ran) -> io::Result<()> {
+    match ran.answer {
+        Ok(n) => print!(rt;
+            " 0 0 0 counts {} {} {} {}",
+            n.archive, n.left, n.right, n.list
+        )?,
+        Err(r) => print!(rt; " {} {} {} counts 0 0 0 0", r.number, r.side, r.place)?,
     }
-    let made = counts(ran.answer);
-    try_show::print(rt, b" counts")?;
-    try_show::print_number(rt, made.archive)?;
-    try_show::print_number(rt, made.left)?;
-    try_show::print_number(rt, made.right)?;
-    try_show::print_number(rt, made.list)?;
     let t = ran.tally;
-    try_show::print(rt, b" tally")?;
-    try_show::print_number(rt, t.left as usize)?;
-    try_show::print_number(rt, t.right as usize)?;
-    try_show::print_number(rt, t.clash as usize)?;
-    Ok(made)
+    print!(rt; " tally {} {} {}", t.left, t.right, t.clash)
 }
 
 // Each of some words.
@@ -64,11 +43,11 @@ pub fn print_list(rt: &impl Print, list: &[u32], entries: usize) -> io::Result<(
         return Ok(());
     }
     let n = 3 * entries;
-    try_show::print(rt, b" list")?;
+    print!(rt; " list")?;
     if entries < 10 {
         print_words(rt, &list[..n])?;
     } else {
-        try_show::print_number(rt, try_show::sum(&list[..n]) as usize)?;
+        print!(rt; " {}", try_show::sum(&list[..n]))?;
     }
-    try_show::print_number(rt, try_show::kept(&list[n..], &try_show::CANARY))
+    print!(rt; " {}", try_show::kept(&list[n..], &try_show::CANARY))
 }

@@ -29,16 +29,6 @@ pub fn print_case(rt: &impl Print, case: &[u8]) -> io::Result<()> {
     print!(rt; ":")
 }
 
-// Some text.
-pub fn print(rt: &impl Print, text: &[u8]) -> io::Result<()> {
-    rt.write_all(text)
-}
-
-// A space and a number.
-pub fn print_number(rt: &impl Print, x: usize) -> io::Result<()> {
-    print!(rt; " {x}")
-}
-
 // An answer's number, side and place; the rows written.
 pub fn print_answer(rt: &impl Print, answer: Answer) -> io::Result<usize> {
     match answer {
