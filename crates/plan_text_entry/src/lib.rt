@@ -7,6 +7,7 @@ ghost use Rattle.plan_text.specs.Text.{mark};
 ghost use Rattle.plan_text.specs.Words.{entry_text};
 
 use listing_spell::Text;
+use plan_text_path::Sides;
 
 // The mark of a kind.
 fn put_mark(text: &mut Text, kind: u32)
@@ -21,14 +22,14 @@ fn put_mark(text: &mut Text, kind: u32)
 }
 
 // The line of entry k of a list.
-pub fn put_entry(text: &mut Text, list: &[u32], k: usize, left: &[u32], right: &[u32])
-    requires { (3 * k + 3 ≤ length list.now) × (length left.now ≤ 81920) × (length right.now ≤ 81920) × (text.old.at + 2 ^ 21 < 2 ^ 64) }
-    ensures { Wrote text.old (entry_text left.now right.now (drop (3 * k) list.now)) (2 ^ 21) text.new }
+pub fn put_entry(text: &mut Text, list: &[u32], k: usize, s: Sides)
+    requires { (3 * k + 3 ≤ length list.now) × (text.old.at + 2 ^ 21 < 2 ^ 64) }
+    ensures { Wrote text.old (entry_text s.entry.left.now s.entry.right.now (drop (3 * k) list.now)) (2 ^ 21) text.new }
 {
     put_mark(text, list[3 * k]);
     text.put_all(b" ");
     let i = list[3 * k + 1] as usize;
     let j = list[3 * k + 2] as usize;
-    plan_text_path::put_side(text, left, i, right, j);
+    plan_text_path::put_side(text, s, i, j);
     text.put_all(b"\n");
 }

@@ -7,7 +7,10 @@ ghost use Rattle.table_route.specs.Route.{path_of};
 ghost use Rattle.plan_text.specs.Text.{path_text};
 ghost use Rattle.plan_text.specs.Words.{side_text};
 
+pub mod sides;
+
 use listing_spell::Text;
+pub use sides::Sides;
 
 // The path of row i: that of the folder in which it stands, and its name.
 fn put_path(text: &mut Text, t: &[u32], i: usize)
@@ -23,14 +26,14 @@ fn put_path(text: &mut Text, t: &[u32], i: usize)
 }
 
 // The path of row i of the left table, or of row j of the right one where the left has no such row.
-pub fn put_side(text: &mut Text, left: &[u32], i: usize, right: &[u32], j: usize)
-    requires { (length left.now ≤ 81920) × (length right.now ≤ 81920) × (text.old.at + 2 ^ 20 < 2 ^ 64) }
-    ensures { Wrote text.old (side_text left.now right.now i j) (2 ^ 20) text.new }
+pub fn put_side(text: &mut Text, s: Sides, i: usize, j: usize)
+    requires { text.old.at + 2 ^ 20 < 2 ^ 64 }
+    ensures { Wrote text.old (side_text s.entry.left.now s.entry.right.now i j) (2 ^ 20) text.new }
 {
-    if i < left.len() / 20 {
-        return put_path(text, left, i);
+    if i < s.left.len() / 20 {
+        return put_path(text, s.left, i);
     }
-    if j < right.len() / 20 {
-        put_path(text, right, j);
+    if j < s.right.len() / 20 {
+        put_path(text, s.right, j);
     }
 }

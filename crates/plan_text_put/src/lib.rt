@@ -7,14 +7,15 @@ ghost use Rattle.plan_text.specs.Text.{counts_text};
 ghost use Rattle.plan_text.specs.Words.{entries_text, plan_bytes};
 
 use listing_spell::Text;
+use plan_text_path::Sides;
 
 // The lines of all entries.
-fn put_entries(text: &mut Text, list: &[u32], left: &[u32], right: &[u32])
-    requires { (length list.now ≤ 36864) × (length left.now ≤ 81920) × (length right.now ≤ 81920) × (text.old.at + 2 ^ 35 < 2 ^ 64) }
-    ensures { Wrote text.old (entries_text left.now right.now (length list.now / 3) list.now) (2 ^ 35) text.new }
+fn put_entries(text: &mut Text, list: &[u32], s: Sides)
+    requires { (length list.now ≤ 36864) × (text.old.at + 2 ^ 35 < 2 ^ 64) }
+    ensures { Wrote text.old (entries_text s.entry.left.now s.entry.right.now (length list.now / 3) list.now) (2 ^ 35) text.new }
 {
     for k in 0..list.len() / 3 {
-        plan_text_entry::put_entry(text, list, k, left, right);
+        plan_text_entry::put_entry(text, list, k, s);
     }
 }
 
@@ -33,10 +34,10 @@ fn put_counts(text: &mut Text, t: plan_tally::Tally)
 }
 
 // The text of a list of the entries of two tables, and of its tally. A byte past the lent bytes is only counted.
-pub fn put_plan(text: &mut Text, list: &[u32], left: &[u32], right: &[u32], t: plan_tally::Tally)
-    requires { (length list.now ≤ 36864) × (length left.now ≤ 81920) × (length right.now ≤ 81920) × (text.old.at + 2 ^ 36 < 2 ^ 64) }
-    ensures { Wrote text.old (plan_bytes left.now right.now list.now t) (2 ^ 36) text.new }
+pub fn put_plan(text: &mut Text, list: &[u32], s: Sides, t: plan_tally::Tally)
+    requires { (length list.now ≤ 36864) × (text.old.at + 2 ^ 36 < 2 ^ 64) }
+    ensures { Wrote text.old (plan_bytes s.entry.left.now s.entry.right.now list.now t) (2 ^ 36) text.new }
 {
-    put_entries(text, list, left, right);
+    put_entries(text, list, s);
     put_counts(text, t);
 }

@@ -9,15 +9,16 @@ ghost use Rattle.plan_text.specs.Spelled.{run_text};
 ghost use Rattle.printout_text.specs.Tables.{IsTable};
 
 use listing_spell::Text;
+use plan_text_path::Sides;
 use tree::Profile;
 
 // A list and its tally as text in lent bytes, from the first one on.
-fn put_plan(out: &mut [u8], list: &[u32], l: &[u32], r: &[u32], tally: plan_tally::Tally) -> usize
-    requires { (length list.now ≤ 36864) × (length l.now ≤ 81920) × (length r.now ≤ 81920) }
-    ensures { Puts out.old 0 (plan_bytes l.now r.now list.now tally) (2 ^ 36) result out.new }
+fn put_plan(out: &mut [u8], list: &[u32], s: Sides, tally: plan_tally::Tally) -> usize
+    requires { length list.now ≤ 36864 }
+    ensures { Puts out.old 0 (plan_bytes s.entry.left.now s.entry.right.now list.now tally) (2 ^ 36) result out.new }
 {
     let mut text = Text { out, at: 0 };
-    plan_text_put::put_plan(&mut text, list, l, r, tally);
+    plan_text_put::put_plan(&mut text, list, s, tally);
     text.at
 }
 
@@ -48,5 +49,5 @@ pub fn put_run(profile: Profile, out: &mut [u8], o: &[u32], l: &[u32], r: &[u32]
     );
     let counts = ran.answer.unwrap();
     let end = 3 * counts.list;
-    put_plan(out, &list[..end], l, r, ran.tally)
+    put_plan(out, &list[..end], Sides { left: l, right: r }, ran.tally)
 }

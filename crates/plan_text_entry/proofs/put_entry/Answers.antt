@@ -9,7 +9,7 @@ pub returns : goal.returns
 unfolding marked
 returns c =
     let a = c.args in
-    rw (entry-words a.left.now a.right.now a.list.now a.k)
+    rw (entry-words a.s.left.now a.s.right.now a.list.now a.k)
     (rest-last (2 ^ 21)
     (rest_less _ (rest_less _ (rest_less _ (rest-all _ _) c.put_mark.ensures) c.put_all.ensures) c.put_side.ensures)
     c.put_all-2.ensures (search rules))

@@ -5,17 +5,17 @@ use Rattle.listing_spell.proofs.Poured.{wrote-within, rest-all, rest-none}
 use Rattle.plan_text.proofs.Words.{side_left, side_right, side-none}
 use Rattle.plan_text_path.proofs.put_side.Goals as goal
 
-pub returns-then-i-left : goal.returns-then-i-left
-returns-then-i-left c =
+pub returns-then-i-s : goal.returns-then-i-s
+returns-then-i-s c =
     let a = c.args in
-    rw (side_left a.left.now a.right.now a.i a.j c.if-i-left.true) (wrote-within (2 ^ 20) (search rules) c.put_path.ensures)
+    rw (side_left a.s.left.now a.s.right.now a.i a.j c.if-i-s.true) (wrote-within (2 ^ 20) (search rules) c.put_path.ensures)
 
-pub returns-then-j-right : goal.returns-then-j-right
-returns-then-j-right c =
+pub returns-then-j-s : goal.returns-then-j-s
+returns-then-j-s c =
     let a = c.args in
-    rw (side_right a.left.now a.right.now a.i a.j c.if-i-left.false c.if-j-right.true) (wrote-within (2 ^ 20) (search rules) c.put_path-then-j-right.ensures)
+    rw (side_right a.s.left.now a.s.right.now a.i a.j c.if-i-s.false c.if-j-s.true) (wrote-within (2 ^ 20) (search rules) c.put_path-then-j-s.ensures)
 
-pub returns-else-j-right : goal.returns-else-j-right
-returns-else-j-right c =
+pub returns-else-j-s : goal.returns-else-j-s
+returns-else-j-s c =
     let a = c.args in
-    rw (side-none a.left.now a.right.now a.i a.j c.if-i-left.false c.if-j-right.false) (rest-none (2 ^ 20) (search rules) (rest-all _ _))
+    rw (side-none a.s.left.now a.s.right.now a.i a.j c.if-i-s.false c.if-j-s.false) (rest-none (2 ^ 20) (search rules) (rest-all _ _))

@@ -7,16 +7,16 @@ use Rattle.plan_text_put.proofs.put_entries.Goals as goal
 pub loop-k-init : goal.loop-k-init
 loop-k-init c =
     let a = c.args in
-    (search rules, rw (entries-start a.left.now a.right.now a.list.now (length a.list.now / 3)) (rest-all _ _))
+    (search rules, rw (entries-start a.s.left.now a.s.right.now a.list.now (length a.list.now / 3)) (rest-all _ _))
 
 pub loop-k-preserved : goal.loop-k-preserved
 loop-k-preserved c =
     let a = c.args in
-    let next = entries_next a.left.now a.right.now a.list.now (length a.list.now / 3) c.loop-k.k (search rules) in
+    let next = entries_next a.s.left.now a.s.right.now a.list.now (length a.list.now / 3) c.loop-k.k (search rules) in
     (search rules, rest_less _ (rw next at c.loop-k.invariant.1) c.put_entry.ensures)
 
 pub returns : goal.returns
 returns c =
     let a = c.args in
-    let e = entries-end a.left.now a.right.now a.list.now (length a.list.now / 3) c.loop-k.k (search rules) in
+    let e = entries-end a.s.left.now a.s.right.now a.list.now (length a.list.now / 3) c.loop-k.k (search rules) in
     rest-none (2 ^ 35) (search rules) (rw e at c.loop-k.invariant.1)

@@ -8,4 +8,4 @@ abbrev pub invariant-loop-k : goal.invariant-loop-k
 invariant-loop-k l =
     let n = length l.list / 3 in
     (l.text.at ≤ l.initial.text.at + 2 ^ 21 * l.k)
-    × Rest l.initial.text (entries_text l.left l.right n l.list) l.text (entries_text l.left l.right (n - l.k) (drop (3 * l.k) l.list))
+    × Rest l.initial.text (entries_text l.s.left.now l.s.right.now n l.list) l.text (entries_text l.s.left.now l.s.right.now (n - l.k) (drop (3 * l.k) l.list))

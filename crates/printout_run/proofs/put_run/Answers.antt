@@ -37,13 +37,17 @@ slice_bounds-put_plan-end c =
     let l : length c.reconcile_plain-ran.new.list ≡ 1146 = c.reconcile_plain-ran.auto.list ∙ length-replicate {A = ℕ} 1146 0 in
     simp length-take (omega arith)
 
+pub invariant_of-put_plan : goal.invariant_of-put_plan
+invariant_of-put_plan c =
+    let a = short c.args.profile c.args.l.now c.requires.1 in
+    let b = short c.args.profile c.args.r.now c.requires.2 in
+    record { short = (omega arith, omega arith) }
+
 pub put_plan-requires : goal.put_plan-requires
 put_plan-requires c =
     let n = entries-few c.args.profile c.args.o.now c.args.l.now c.args.r.now c.requires.0 c.requires.1 c.requires.2 _ _ (rooms _) _ c.reconcile_plain-ran.ensures _ c.unwrap-counts.ensures in
     let l : length c.reconcile_plain-ran.new.list ≡ 1146 = c.reconcile_plain-ran.auto.list ∙ length-replicate {A = ℕ} 1146 0 in
-    let a = short c.args.profile c.args.l.now c.requires.1 in
-    let b = short c.args.profile c.args.r.now c.requires.2 in
-    (simp length-take (omega arith), omega arith, omega arith)
+    simp length-take (omega arith)
 
 pub returns : goal.returns
 returns c =
