@@ -1,4 +1,4 @@
-// The answers that tables are due, the first of them, and the call that checks a table.
+// The answers that tables are due, and the call that checks a table.
 #![tactic(auto)]
 
 ghost use Rattle.std.specs.Prelude.{◌≡◌, ◌∷◌, [], ◌-◌, ◌<◌};

@@ -1,4 +1,4 @@
-// The words of a tree table, twenty to a row: one word, words compared, words copied.
+// The words of a tree table, twenty to a row: one word, a row or its name, words compared, words copied.
 #![tactic(auto)]
 
 ghost use Rattle.std.specs.Prelude.{◌≡◌, ◌+◌, ◌*◌, ◌≤◌, ◌<◌, length, get_or};
