@@ -31,7 +31,7 @@ use Rattle.plan_results.specs.Pieces.{new_tree, piece_list}
 use Rattle.plan_results.proofs.Pieces.{line-most}
 use Rattle.table_rules.proofs.Faults.{first-passed, first-both, refusal-fine, unless-true, room-parts}
 use Rattle.table_rules.proofs.Passing.{twins-fine}
-use Rattle.plan_tally.proofs.Laws.{counts-front, counts-list}
+use Rattle.plan_tally.proofs.Laws.{counts-list}
 use Rattle.plan_run.specs.declared.Counts.{Counts}
 use Rattle.plan_run.specs.Answer.{Reconciled}
 use Rattle.plan_run.specs.Run.{given, Lent, lent, counts_of, twins_of, tables_due, rooms_due, room_due, run_due, filled, run_of, ReconcileContract}
@@ -110,8 +110,8 @@ module _ {p : Profile} {o l r s e : List ℕ} {q : ℕ} {b : Lent} {c : Counts} 
         (omega (arith, R.list), omega (arith, ap (λ (x : Counts). x.list) T.counted, lines-most (length (take q e) / 4) (take q e), length-take-le q e T.fits))
 
     pub settles-accepted : (a' l' r' i' : List ℕ) (t : Tally) → Wrote (planned_words o l r (decided (take q e))) b.archive b.left b.right b.list a' l' r' i'
-        → length i' ≡ length b.list → t ≡ counted_all (length (take (3 * c.list) i') / 3) (take (3 * c.list) i') → Settles p o l r b (lent a' l' r' i' t) (Ok c)
-    settles-accepted a' l' r' i' t w j m = record { answered = rw (← due-at, h, counts) refl; left_in = rw (← due-at, h) (rw (a-is, l-is, r-is, t-is, i-is) refl) }
+        → t ≡ counted_all c.list i' → Settles p o l r b (lent a' l' r' i' t) (Ok c)
+    settles-accepted a' l' r' i' t w m = record { answered = rw (← due-at, h, counts) refl; left_in = rw (← due-at, h) (rw (a-is, l-is, r-is, t-is, i-is) refl) }
       where
         a-is : a' ≡ (filled p o l r b).archive
         a-is = w.archive ∙ ap (λ (x : Words). over b.archive x.archive) words
@@ -127,7 +127,7 @@ module _ {p : Profile} {o l r s e : List ℕ} {q : ℕ} {b : Lent} {c : Counts} 
 
         t-is : t ≡ (filled p o l r b).tally
         t-is =
-            m ∙ counts-front c.list i' (entries i' j).0 ∙ ap (λ (x : ℕ). counted_all x i') (ap (λ (x : Counts). x.list) counts)
+            m ∙ ap (λ (x : ℕ). counted_all x i') (ap (λ (x : Counts). x.list) counts)
             ∙ ap (counted_all (counts_of (given p o l r)).list) i-is
             ∙ counts-list b.list (fold p (tree_of l)) (fold p (tree_of r)) (given p o l r).lines
 

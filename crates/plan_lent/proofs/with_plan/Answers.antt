@@ -1,6 +1,6 @@
 -- `plan_lent::with_plan` meets its contract: the plan is long enough, the rooms are tried, and what is written is the outcome.
 use mathlib.Core.List.{List}
-use mathlib.Core.Path.{◌≡◌, sym}
+use mathlib.Core.Path.{◌≡◌, sym, ◌∙◌}
 use native.Mathlib.Omega.{arith}
 use borrow.Author.Rules.{rules}
 use lib.ListN.{length, take, get_or}
@@ -19,6 +19,7 @@ use Rattle.plan_results.specs.Decisions.{decided}
 use Rattle.plan_run.specs.declared.Counts.{Counts}
 use Rattle.plan_run.specs.Run.{Lent, lent, rooms_due}
 use Rattle.plan_run.specs.Steps.{rows_of, planned_counts}
+use Rattle.plan_tally.proofs.Laws.{counts-front}
 use Rattle.plan_run.proofs.Planned.{Sound, three, settled-fits, items-fit, items-most}
 use Rattle.plan_run.proofs.Steps.{Tried, spacious, entries, settles-accepted, settles-refused}
 use Rattle.plan_lent.proofs.with_plan.Goals as goal
@@ -133,7 +134,8 @@ returns-in-Ok c =
     let h = sound c.requires.passes c.type_inv.o c.type_inv.l c.type_inv.r in
     let m = within h c.settle_in-n.ensures c.requires.r_in_bounds c.settle_in-n.auto.plan in
     let t = tried (lent a.archive.now a.left.now a.right.now a.list.now a.old) h c.settle_in-n.ensures m c.counts_of-c.ensures c.rooms_due-due.ensures in
-    settles-accepted t _ c.in-Ok.is _ _ _ _ _ c.write_results.ensures c.write_results.auto.list c.counts-tally.ensures
+    let n = entries t _ c.in-Ok.is c.write_results.new.list c.write_results.auto.list in
+    settles-accepted t _ c.in-Ok.is _ _ _ _ _ c.write_results.ensures (c.counts-tally.ensures ∙ counts-front _ _ n.0)
 
 pub returns-in-Err : goal.returns-in-Err
 returns-in-Err c =
