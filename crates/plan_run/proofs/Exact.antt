@@ -10,7 +10,9 @@ use Rattle.tree.proofs.Folds.{fold-exact}
 use Rattle.settle.specs.Results.{Outcome, outcome}
 use Rattle.settle.proofs.Spelled.{left-exact, right-exact, archive-exact}
 use Rattle.table_row.specs.Buffer.{over}
+use Rattle.table_row.specs.Keyed.{keyed}
 use Rattle.table_row.specs.Tree.{table, tree_of}
+use Rattle.table_row.proofs.Keyed.{keyed-exact}
 use Rattle.table_rules.specs.declared.Fault.{Fault}
 use Rattle.table_rules.specs.declared.Fault.TheVariants.{BadLength, BadRow}
 use Rattle.table_rules.specs.Answer.{is_accepted, Answer}
@@ -19,7 +21,9 @@ use Rattle.table_rules.specs.Faults.{first_refusal}
 use Rattle.table_rules.specs.Keyed.{twins}
 use Rattle.table_rules.proofs.Plain.{checked}
 use Rattle.table_rules.proofs.Exact.{checked-exact}
+use Rattle.plan_cursor.specs.Three.{Three}
 use Rattle.plan.specs.Items.{list_words}
+use Rattle.plan.specs.Settle.{settled}
 use Rattle.plan_tally.specs.Count.{tally_of}
 use Rattle.plan_run.specs.Answer.{answer_with}
 use Rattle.plan_run.specs.Run.{Lent, counts_of, twins_of, tables_due, rooms_due, run_due, RunOutcome, run_of}
@@ -73,3 +77,7 @@ run-exact o l r b =
       fold-exact (tree_of l),
       fold-exact (tree_of r),
     )
+
+-- the tables are their own tables of keys
+pub settled-exact : (o l r : List ℕ) → Three o l r → settled (keyed Exact o) (keyed Exact l) (keyed Exact r) ≡ settled o l r
+settled-exact o l r T = rw (keyed-exact o T.o-whole, keyed-exact l T.l-whole, keyed-exact r T.r-whole)

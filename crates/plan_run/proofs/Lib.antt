@@ -2,6 +2,5 @@
 pub mod Accepted
 pub mod Planned
 pub mod Steps
-pub mod Turns
 pub mod OneOutcome
 pub mod Exact

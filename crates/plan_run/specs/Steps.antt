@@ -1,24 +1,15 @@
 -- A run's steps over words: what a plan's decisions give, the rooms they need, and what is left in the buffers.
-use Rattle.std.specs.Prelude.{◌≡◌, List, cond, length, ℕ, zero, suc, ◌+◌, ◌/◌, ◌≤◌}
+use Rattle.std.specs.Prelude.{◌≡◌, List, cond, length, ℕ, ◌+◌, ◌/◌, ◌≤◌}
 use Rattle.tree.specs.declared.Profile.{Profile}
-use Rattle.tree.specs.declared.Profile.TheVariants.{Folded}
 use Rattle.table_row.specs.Buffer.{over}
-use Rattle.table_row.specs.Keyed.{keyed}
 use Rattle.table_rules.specs.Answer.{is_accepted}
 use Rattle.plan_cursor.specs.declared.Decision.{Decision}
-use Rattle.plan.specs.Settle.{settled}
 use Rattle.plan_results.specs.declared.Tree.TheVariants.{Archive, Left, Right}
 use Rattle.plan_results.specs.Decisions.{pieces}
 use Rattle.plan_results.specs.Pieces.{new_tree, piece_list}
 use Rattle.plan_run.specs.declared.Counts.{Counts}
 use Rattle.plan_run.specs.Answer.{Reconciled, answer_with}
 use Rattle.plan_run.specs.Run.{given, Lent, counts_of, room_due, filled}
-
--- the plan of three tables of which the first is to be keyed, and n more after it: each is keyed and goes behind the others, so
--- that where n is 2 all are keyed, and in their order
-unfoldable pub settled_after : ℕ → List ℕ → List ℕ → List ℕ → List ℕ
-settled_after zero o l r = settled l r (keyed Folded o)
-settled_after (suc n) o l r = settled_after n l r (keyed Folded o)
 
 -- the rows of three tables
 abbrev pub rows_of : List ℕ → List ℕ → List ℕ → ℕ
