@@ -22,8 +22,8 @@ pub fn sort_byte(b: u8) -> Class
     }
 }
 
-// The value of a decimal, octal or hex digit. A byte that is none has 16 and no Option: the definition `digit_value`, under
-// `Digit` here and `digits`, `octal` and `hex_bytes` elsewhere, is this number.
+// The value of a decimal, octal or hex digit. A byte that is none has 16 and no Option: each byte has an answer, which is the
+// number that the definitions `digit_value`, `octal` and `hex_bytes` are on.
 pub fn digit_value(b: u8) -> u8
     ensures { Digit b result }
 {

@@ -123,8 +123,9 @@ pub fn no_more(rest: &[u8]) -> bool
     rest.len() <= listing_words::skip_blanks(rest, 0)
 }
 
-// The value of type: 10 for one that is not known. The number that is due is a plain one, here and in each crate above, as the
-// answer in C and the definitions `Entry`, `Step` and `Outcome` have it.
+// The value of type: 10 for one that is not known. The number that is due is a plain one, here and in each crate above: the rules
+// refuse by number, the definitions `Entry`, `Step` and `Outcome` have it, and a variant for each would be that number by another
+// name.
 fn type_of(value: &[u8]) -> Result<Kind, u32>
     ensures { result ≡ kind_due (type_of value.now) }
 {

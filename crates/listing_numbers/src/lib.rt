@@ -24,7 +24,8 @@ fn fill_digits(digits: &mut [u8; 20], n: u64) -> usize
     0
 }
 
-// A number in decimal, without leading zeros.
+// A number in decimal, without leading zeros. By hand, as hex below: what Display writes stands in no contract of a text that may
+// be longer than what is lent.
 pub fn put_decimal(text: &mut Text, n: u64)
     requires { text.old.at + 20 < 2 ^ 64 }
     ensures { Wrote text.old (decimal 20 n []) 20 text.new }

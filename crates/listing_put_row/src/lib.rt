@@ -30,7 +30,8 @@ fn has_room(count: usize, words: usize) -> bool
     count < usize::min(4096, words / 20)
 }
 
-// An entry put into the folder last opened: 14, 13 by key, 3.
+// An entry put into the folder last opened: 14, 13 by key, 3. Table and state are no struct: `Takes` and `Places` say of each what
+// it was and is. An entry's content is eleven words, as the definition `Content` has it.
 pub fn put_row(
     profile: Profile,
     t: &mut [u32],

@@ -88,7 +88,8 @@ fn body_end(text: &[u8], from: usize) -> usize
     text.len()
 }
 
-// The end of the logical line that begins at from.
+// The end of the logical line that begins at from. A text and a place in it, and no slice: `Counted` is on places, and the line is
+// cut by the caller.
 pub fn line_end(text: &[u8], from: usize) -> usize
     requires { from ≤ length text.now }
     ensures { Counted text.now (from + len_in Lead (drop from text.now)) result }

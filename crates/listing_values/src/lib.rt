@@ -99,7 +99,7 @@ fn hex_values(value: &[u8]) -> [u8; 64]
     digits
 }
 
-// Whether all are values of digits.
+// Whether all are values of digits: all are looked at, so that no jump depends on one of them.
 fn all_digits(digits: &[u8; 64]) -> bool
     requires { length digits.now ≡ 64 }
     ensures { result ≡ all_below 16 digits.now }

@@ -10,7 +10,8 @@ use plan_run::Ran;
 use plan_tally::Tally;
 use tree::Profile;
 
-// The same with a plan of so many words, in a frame of its own: a run of small tables has no room for the largest plan.
+// A reconciliation of tables that keep the rules, with a plan of so many words in a frame of its own: a run of small tables has
+// no room for the largest plan.
 #[inline(never)]
 fn with_room<const ROOM: usize>(
     profile: Profile,
@@ -35,8 +36,8 @@ fn with_room<const ROOM: usize>(
     plan_lent::with_plan(profile, o, l, r, archive, left, right, list, old, &mut plan)
 }
 
-// A reconciliation of tables that keep the rules, with a plan of four words a row in one of three sizes: of small tables most of
-// the time would be spent on zeroing the largest.
+// The same with a plan of four words a row in one of three sizes: of small tables most of the time would be spent on zeroing the
+// largest.
 pub fn carry_out(
     profile: Profile,
     o: &[u32],

@@ -9,7 +9,9 @@ pub mod tables;
 use std::cmp::Ordering;
 pub use tables::Tables;
 
-// A row of archive, left and right each; 4,294,967,295 where there is none.
+// A row of archive, left and right each; 4,294,967,295 where there is none. They are numbers and no Options, since `least`,
+// `decision` and the plan's words are on these numbers, and the list holds that one where a path has no row. Each has its name: an
+// array of three would hide which is which.
 #[derive(Clone, Copy)]
 pub struct Rows {
     pub o: u32,
@@ -26,7 +28,7 @@ pub enum Decision {
     Clash(Rows),
 }
 
-// No table has this row. It is a number and no Option, since the list holds it where a path has no row.
+// No table has this row.
 const NONE: u32 = 4294967295;
 
 // Whether a table has row i.

@@ -9,7 +9,8 @@ ghost use Rattle.plan_results.specs.Pieces.{source_of};
 use plan_cursor::{Decision, Rows};
 use plan_results::{Source, Tree};
 
-// Item k of a plan: the number that words_of in plan_steps wrote, as the enum that it stands for.
+// Item k of a plan: the number that words_of in plan_steps wrote, as the enum that it stands for. A plan is words in the
+// contracts of what reads it (`decided`).
 pub fn decode(plan: &[u32], k: usize) -> Decision
     requires { 4 * k + 4 ≤ length plan.now }
     ensures { result ≡ decision_of (drop (4 * k) plan.now) }

@@ -11,7 +11,9 @@ use plan_run::Ran;
 use plan_tally::Tally;
 use tree::Profile;
 
-// A reconciliation of tables that keep the rules: the plan is made, then the rooms are tried, then all is written.
+// A reconciliation of tables that keep the rules: the plan is made, then the rooms are tried, then all is written. The four lent
+// buffers stay apart, as C lends them: `lent` is their record in each contract, and each writer takes one of them. The rules hold
+// of each table by itself.
 pub fn with_plan(
     profile: Profile,
     o: &[u32],

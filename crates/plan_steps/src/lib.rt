@@ -7,7 +7,8 @@ ghost use Rattle.plan.specs.Writes.{Writes};
 
 use plan_cursor::{Decision, Rows, Tables};
 
-// A decision's four words, its number first: the plan is words in lent memory, and a decision is an enum everywhere else.
+// A decision's four words, its number first: a plan is words in the contracts of what settles (`settled`), and a decision is an
+// enum everywhere else.
 #[tactic(auto, unfolding(plan::specs::Settle::decision_words))]
 fn words_of(d: Decision) -> [u32; 4]
     ensures { result ≡ decision_words d }

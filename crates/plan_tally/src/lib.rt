@@ -12,7 +12,7 @@ pub struct Tally {
     pub clash: u32,
 }
 
-// How many entries of a list are of a kind.
+// How many entries of a list are of a kind, which is a word of the list, as C has it.
 fn count_kind(list: &[u32], kind: u32) -> u32
     requires { length list.now ≤ 36864 }
     ensures { result ≡ counted kind (length list.now / 3) list.now }

@@ -9,7 +9,7 @@ ghost use Rattle.plan_text.specs.Words.{entry_text};
 use listing_spell::Text;
 use plan_text_path::Sides;
 
-// The mark of a kind.
+// The mark of a kind, which is a word of the list, as C has it.
 fn put_mark(text: &mut Text, kind: u32)
     requires { text.old.at + 1 < 2 ^ 64 }
     ensures { Wrote text.old (mark kind) 1 text.new }

@@ -10,7 +10,8 @@ use plan_cursor::Tables;
 use plan_results::Tree;
 
 // How many words a new tree has. A plan has no more items than the three tables have rows, 12,288 at most. To count and to write
-// stay two loops, in the list too: they share their laws, and one loop over a closure would have to say what each call leaves.
+// stay two loops, in the list too: they share their laws, and one loop over a closure would have to say what each call leaves. That
+// left has a row is no fact of Tables: settling asks none.
 pub fn count_tree(t: Tables, tree: Tree, plan: &[u32]) -> usize
     requires in_bounds { 20 ≤ length t.l.now }
     requires few { length plan.now ≤ 49152 }

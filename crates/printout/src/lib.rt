@@ -7,7 +7,8 @@ ghost use Rattle.printout_text.specs.Printed.{printed};
 use tree::Profile;
 
 // What is printed for three texts in a profile: the bytes that fit into out, and how many there are, at most 1,048,576. A text of more
-// than 16,384 bytes is refused with 6, so a file that is not there is given as one.
+// than 16,384 bytes is refused with 6, so a file that is not there is given as one. Each file has a branch of its own, since each is
+// called by its name.
 pub fn print_plan(
     profile: Profile,
     out: &mut [u8],

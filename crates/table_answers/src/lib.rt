@@ -56,7 +56,8 @@ pub fn unless_refused(ok: bool, number: u32, side: u32) -> Answer
     })
 }
 
-// Whether a result of n rows is not too long, and has room in the words lent.
+// Whether a result of n rows is not too long, and has room in the words lent. It is not one with those of listings: `room_rule`,
+// `most_rows` and `fits` are three definitions.
 pub fn has_room(n: usize, lent: usize) -> bool
     ensures { result ≡ room_rule n lent }
 {

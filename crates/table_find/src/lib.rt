@@ -6,7 +6,9 @@ ghost use Rattle.tree.specs.Same.{same_words};
 ghost use Rattle.table_row.specs.Table.{row_at};
 ghost use Rattle.table_find.specs.Subtree.{end_of, subtree};
 
-// The first row after row i whose depth is not greater, or the number of rows.
+// The first row after row i whose depth is not greater, or the number of rows. Rows are searched one by one, since a table is
+// words that C lends. Each search has a loop of its own: their laws (`run`, `seek`, `spot_in`, `from`) are not one, and a closure
+// for the test would have to say what each passes over.
 pub fn subtree_end(t: &[u32], i: usize) -> usize
     requires { 20 * (i + 1) ≤ length t.now }
     ensures { (result ≡ end_of t.now i) × (20 * result ≤ length t.now) }

@@ -32,7 +32,7 @@ fn carry_out(
 }
 
 // The target's subtree at a path becomes the source's, absence included; the result is the whole target afterwards. A path is
-// sixteen slots and a depth, as the C interface has it, and so it is in the contracts of all that a move is made of.
+// sixteen slots and a depth, as the C interface has it, and so it is in the contracts of what tries a move and carries it out.
 pub fn make_move(
     profile: Profile,
     target: &[u32],

@@ -66,7 +66,8 @@ pub fn same_rows(a: &[u32], i: usize, b: &[u32], j: usize) -> bool
     same_words(row(a, i), row(b, j))
 }
 
-// All of src into dst at place at; the next place.
+// All of src into dst at place at; the next place. A buffer and a place in it are no struct: the laws of `written` and `Writes` are
+// on both, and most callers write once.
 pub fn copy_words(src: &[u32], dst: &mut [u32], at: usize) -> usize
     requires { at + length src.now ≤ length dst.old }
     ensures { (result ≡ at + length src.now) × (dst.new ≡ written dst.old at src.now) }
