@@ -9,17 +9,24 @@ ghost use Rattle.plan_results.specs.Pieces.{source_words, named, name_row, piece
 use plan_cursor::{Decision, Rows, Tables};
 use plan_results::{Source, Tree};
 
+// A source's words.
+fn source_part<'a>(t: Tables<'a>, s: Source) -> &'a [u32]
+    ensures { result.now ≡ source_words t.entry.o.now t.entry.l.now t.entry.r.now s }
+{
+    match s {
+        Source::OldPart(i) => table_find::part(t.o, i),
+        Source::LeftPart(i) => table_find::part(t.l, i),
+        Source::RightPart(i) => table_find::part(t.r, i),
+        Source::LeftRow(i) => plan_decode::one_row(t.l, i),
+        Source::RightRow(i) => plan_decode::one_row(t.r, i),
+    }
+}
+
 // How many words a source has.
 pub fn source_len(t: Tables, s: Source) -> usize
     ensures { result ≡ length (source_words t.entry.o.now t.entry.l.now t.entry.r.now s) }
 {
-    match s {
-        Source::OldPart(i) => table_find::part(t.o, i).len(),
-        Source::LeftPart(i) => table_find::part(t.l, i).len(),
-        Source::RightPart(i) => table_find::part(t.r, i).len(),
-        Source::LeftRow(i) => plan_decode::one_row(t.l, i).len(),
-        Source::RightRow(i) => plan_decode::one_row(t.r, i).len(),
-    }
+    source_part(t, s).len()
 }
 
 // A source's words into out at place at; the next place.
@@ -27,13 +34,7 @@ fn copy_source(t: Tables, s: Source, out: &mut [u32], at: usize) -> usize
     requires { at + length (source_words t.o.now t.l.now t.r.now s) ≤ length out.old }
     ensures { Writes out.old at (source_words t.entry.o.now t.entry.l.now t.entry.r.now s) out.new result }
 {
-    match s {
-        Source::OldPart(i) => table_row::copy_words(table_find::part(t.o, i), out, at),
-        Source::LeftPart(i) => table_row::copy_words(table_find::part(t.l, i), out, at),
-        Source::RightPart(i) => table_row::copy_words(table_find::part(t.r, i), out, at),
-        Source::LeftRow(i) => table_row::copy_words(plan_decode::one_row(t.l, i), out, at),
-        Source::RightRow(i) => table_row::copy_words(plan_decode::one_row(t.r, i), out, at),
-    }
+    table_row::copy_words(source_part(t, s), out, at)
 }
 
 // The first of the rows of out from place at to e called as a row is, where they and the row are there.
