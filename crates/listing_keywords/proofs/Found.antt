@@ -12,18 +12,15 @@ use Rattle.tree.specs.Same.{same_words}
 use Rattle.tree.proofs.Never.{never}
 use Rattle.table_row.proofs.Table.{drop-take}
 use Rattle.listing.specs.Bytes.{text}
-use Rattle.listing.specs.Words.{Words, words, words_from, key_len, values}
+use Rattle.listing.specs.Words.{Words, words, key_len, values}
 use Rattle.listing_scan.specs.Places.{Counted}
-use Rattle.listing_scan.proofs.Next.{Next}
+use Rattle.listing_words.specs.First.{First}
+use Rattle.listing_words.proofs.First.{first-next}
 use Rattle.listing_keywords.specs.Found.{part, times, first, Stands, Found, AllFound, seen_after, hit_after, noted_after}
 use Rattle.listing_keywords.specs.declared.Hit.{Hit}
 use Rattle.listing_keywords.specs.declared.Hit.TheVariants.{Never, Once, More}
 use Rattle.std.specs.Borrow.{Bor}
 use Rattle.listing_keywords.specs.declared.Hits.{Hits}
-
-pub words-end : (l : List ℕ) (i : ℕ) → length l ≤ i → words (drop i l) ≡ []
-unfolding words_from
-words-end l i h = rw (drop_of_length-le l h)
 
 part-tail : (l : List ℕ) (a e u : ℕ) → a + u ≤ e → drop u (part l a e) ≡ part l (a + u) e
 part-tail l a e u h = let q : e - a ≡ u + (e - (a + u)) = omega arith in rw (q, drop-take u (e - (a + u)) (drop a l), drop-drop)
@@ -83,35 +80,59 @@ module _ (l : List ℕ) (v : Bor (List ℕ)) (b : Stands l v.now) where
       go true = rw r (seen-found (values name us) h f)
       go false = rw append-nil f
 
--- the words up to place i, and what was found in them
-pub record Passed (l : List ℕ) (i : ℕ) (h : Hits) : Type 0 where
-  pub fits : i ≤ length l
+-- what is left of the line, and what was found in the words before it
+pub record Passed (l left : List ℕ) (h : Hits) : Type 0 where
+  pub at : ℕ
+  pub is : left ≡ drop at l
+  pub fits : at ≤ length l
   pub seen : Words
-  pub split : words l ≡ seen ++ words (drop i l)
+  pub split : words l ≡ seen ++ words left
   pub found : AllFound l seen h
 
 module _ {l : List ℕ} where
-  pub passed_none : Passed l 0 (record { kind = Never; size = Never; digest = Never })
+  pub passed_none : Passed l l (record { kind = Never; size = Never; digest = Never })
   unfolding values
-  passed_none = record { fits = omega arith; seen = []; split = refl; found = record { kind = refl; size = refl; digest = refl } }
+  passed_none =
+      record {
+        at = 0;
+        is = refl;
+        fits = omega arith;
+        seen = [];
+        split = refl;
+        found = record { kind = refl; size = refl; digest = refl };
+      }
 
-  module _ {i : ℕ} {h : Hits} (p : Passed l i h) where
-    pub passed-all : words (drop i l) ≡ [] → AllFound l (words l) h
+  module _ {left : List ℕ} {h : Hits} (p : Passed l left h) where
+    pub passed-all : words left ≡ [] → AllFound l (words l) h
     passed-all e = rw (p.split, e, append-nil) p.found
 
-    pub passed-word : {a e k v : ℕ} (b : Bor (List ℕ)) → Next l a e (words (drop i l)) (part l a e) (words (drop e l))
-        → Counted (part l a e) (key_len (part l a e)) k → Begins k (length (part l a e)) v → b.now ≡ drop v (part l a e)
-        → Passed l e (noted_after h (take k (part l a e)) b)
-    passed-word {a} {e} {k} {v} b n c s is =
-        let w = part l a e in
-        let u : v ≤ length w = ⊎_elim (λ q. let x = q.0 in let y = q.1 in omega arith) (λ q. let y = q.1 in let x = c.fits in omega arith) s in
+    -- a word of what is left stands in the line
+    word-part : {w r : List ℕ} (f : First left w r) → w ≡ part l (p.at + f.start) (p.at + f.end)
+    word-part f =
+        let q : (p.at + f.end) - (p.at + f.start) ≡ f.end - f.start = omega arith in
+        f.is ∙ rw (p.is, drop-drop, q)
+
+    pub passed-word : {w r : List ℕ} {k v : ℕ} (b : Bor (List ℕ)) → First left w r
+        → Counted w (key_len w) k → Begins k (length w) v → b.now ≡ drop v w
+        → Passed l r (noted_after h (take k w) b)
+    passed-word {w} {r} {k} {v} b f c s is =
+        let n = first-next left w r f in
+        let a = p.at + f.start in
+        let e = p.at + f.end in
         let low = n.some in
-        let stands : Stands l b.now = rw is (tail-stands l a e v (omega arith) n.fits u) in
+        let at = p.fits in
+        let left-long : length left ≡ length l - p.at = rw p.is (length-drop p.at l) in
+        let fits : e ≤ length l = let y = n.fits in omega arith in
+        let q = word-part f in
+        let u : v ≤ length w = ⊎_elim (λ q. let x = q.0 in let y = q.1 in omega arith) (λ q. let y = q.1 in let x = c.fits in omega arith) s in
+        let stands : Stands l b.now = rw (is, q) (tail-stands l a e v (omega arith) fits (rw (← q) u)) in
         let value : drop (suc (key_len w)) w ≡ b.now = sym (value-is w k v c.is s) ∙ sym is in
         let more = hit-found l b stands w p.seen value in
         rw c.is
         (record {
-          fits = n.fits;
+          at = e;
+          is = f.past ∙ rw (p.is, drop-drop);
+          fits = fits;
           seen = p.seen ++ (w ∷ []);
           split = p.split ∙ rw (n.parted, append_assoc);
           found =

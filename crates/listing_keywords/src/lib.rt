@@ -79,19 +79,12 @@ pub fn find_keys<'a>(rest: &'a [u8]) -> Hits<'a>
         size: Hit::Never,
         digest: Hit::Never,
     };
-    let mut i = 0;
-    // A `while`, since a step is a word.
-    while i < rest.len() {
-        let a = listing_words::skip_blanks(rest, i);
-        if rest.len() <= a {
-            return h;
-        }
-        let e = listing_words::word_end(rest, a);
-        let word = &rest[a..e];
+    let mut left = rest;
+    while let Some((word, after)) = listing_words::first_word(left) {
         let k = listing_values::key_end(word);
         let v = if k < word.len() { k + 1 } else { k };
         h = noted(h, &word[..k], &word[v..]);
-        i = e;
+        left = after;
     }
     h
 }
@@ -100,18 +93,12 @@ pub fn find_keys<'a>(rest: &'a [u8]) -> Hits<'a>
 pub fn lacks(rest: &[u8], key: &[u8]) -> bool
     ensures { result ≡ is_empty (values key.now (words rest.now)) }
 {
-    let mut i = 0;
-    // A `while`, since a step is a word.
-    while i < rest.len() {
-        let a = listing_words::skip_blanks(rest, i);
-        if rest.len() <= a {
-            return true;
-        }
-        let e = listing_words::word_end(rest, a);
-        if listing_values::has_key(&rest[a..e], key) {
+    let mut left = rest;
+    while let Some((word, after)) = listing_words::first_word(left) {
+        if listing_values::has_key(word, key) {
             return false;
         }
-        i = e;
+        left = after;
     }
     true
 }

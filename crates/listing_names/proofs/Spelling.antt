@@ -10,8 +10,15 @@ use lib.Seq.{drop-cons, drop-drop, take-suc-set, get_or-set_other, get_or-take}
 use Prim.Native.Nat.{ℕ, zero, suc, ◌+◌, ◌≤◌, ◌<◌}
 use borrow.Author.Tests.{eq-eqb, ne_eqb, le-leb, lt-leb, ltb-true, ltb-false}
 use Rattle.listing.specs.Bytes.{among, class_of}
+use Rattle.listing.specs.declared.Class.TheVariants.{Plain}
 use Rattle.listing.specs.Names.{spelt_as, decode_from, decode, packed, name_of}
 use Rattle.listing_names.specs.Names.{fits}
+
+-- a plain byte is not 0
+pub plain-some : (b : ℕ) → Plain ≡ class_of b → 0 < b
+unfolding class_of
+plain-some zero e = absurd (cc)
+plain-some (suc n) e = omega arith
 
 decode-skip : (k : ℕ) (l : List ℕ) → decode_from k l ≡ decode (drop k l)
 unfolding decode_from

@@ -2,67 +2,64 @@
 #![tactic(auto)]
 
 ghost use Rattle.std.specs.Prelude.{◌≡◌, ◌+◌, ◌≤◌, ◌<◌, length, drop, get_or};
-ghost use Rattle.listing.specs.Bytes.{class_of, digit_value, Digit};
+ghost use Rattle.listing.specs.Bytes.{class_of, digit_value};
 ghost use Rattle.listing.specs.Names.{octal as octal_of, spelt_as, quad as quad_of, packed};
-ghost use Rattle.listing_names.specs.Names.{IsSpelt, IsName};
+ghost use Rattle.listing_names.specs.Names.{IsOctal, IsByte, IsSpelt, IsName};
 
-// The value of the digit at place i, 16 where there is none.
-fn digit_at(word: &[u8], i: usize) -> u8
-    ensures { Digit (get_or word.now i 0) result }
+// The octal digit at place i, if there is one.
+fn digit_at(word: &[u8], i: usize) -> Option<u8>
+    ensures { IsOctal (digit_value (get_or word.now i 0)) result }
 {
-    if i < word.len() {
-        return listing_bytes::digit_value(word[i]);
+    let d = listing_bytes::digit_value(*word.get(i)?);
+    if 7 < d {
+        return None;
     }
-    16
+    Some(d)
 }
 
-// The byte that three octal values say. Where they say none it is 0 and no Option, here and in what reads an escape: the
-// definitions `octal` and `spelt_as` are this number.
-fn octal(a: u8, b: u8, c: u8) -> u8
-    ensures { result ≡ octal_of a b c }
+// The byte that three octal digits say, if it is one that is escaped.
+fn octal(a: u8, b: u8, c: u8) -> Option<u8>
+    requires { (a ≤ 7) × (b ≤ 7) × (c ≤ 7) }
+    ensures { IsByte (octal_of a b c) result }
 {
     if 3 < a {
-        return 0;
-    }
-    if 7 < b {
-        return 0;
-    }
-    if 7 < c {
-        return 0;
+        return None;
     }
     let v = 64 * a + 8 * b + c;
-    if v == 47 {
-        return 0;
+    if v == 0 {
+        return None;
     }
-    v
+    if v == 47 {
+        return None;
+    }
+    Some(v)
 }
 
-// The byte that the three digits from place i on say.
-fn escaped(word: &[u8], i: usize) -> u8
+// The byte that the three digits from place i on say, if they say one.
+fn escaped(word: &[u8], i: usize) -> Option<u8>
     requires { i ≤ length word.now }
-    ensures { result ≡ octal_of (digit_value (get_or word.now i 0)) (digit_value (get_or word.now (i + 1) 0)) (digit_value (get_or word.now (i + 2) 0)) }
+    ensures { IsByte (octal_of (digit_value (get_or word.now i 0)) (digit_value (get_or word.now (i + 1) 0)) (digit_value (get_or word.now (i + 2) 0))) result }
 {
-    let a = digit_at(word, i);
-    let b = digit_at(word, i + 1);
-    let c = digit_at(word, i + 2);
+    let a = digit_at(word, i)?;
+    let b = digit_at(word, i + 1)?;
+    let c = digit_at(word, i + 2)?;
     octal(a, b, c)
 }
 
-// The byte that is spelt at place i, 0 for a bad spot.
-fn byte_at(word: &[u8], i: usize) -> u8
+// The byte that is spelt at place i, if the spot is no bad one.
+fn byte_at(word: &[u8], i: usize) -> Option<u8>
     requires { i < length word.now }
-    ensures { result ≡ spelt_as (class_of (get_or word.now i 0)) (get_or word.now i 0) (drop (i + 1) word.now) }
+    ensures { IsByte (spelt_as (class_of (get_or word.now i 0)) (get_or word.now i 0) (drop (i + 1) word.now)) result }
 {
     let b = word[i];
-    let c = listing_bytes::sort_byte(b);
-    match c {
-        listing::Class::Plain => b,
+    match listing_bytes::sort_byte(b) {
+        listing::Class::Plain => Some(b),
         listing::Class::Escape => escaped(word, i + 1),
-        listing::Class::Blank => 0,
-        listing::Class::LineEnd => 0,
-        listing::Class::Hash => 0,
-        listing::Class::Mark => 0,
-        listing::Class::Refused => 0,
+        listing::Class::Blank => None,
+        listing::Class::LineEnd => None,
+        listing::Class::Hash => None,
+        listing::Class::Mark => None,
+        listing::Class::Refused => None,
     }
 }
 
@@ -75,10 +72,7 @@ fn unescape(word: &[u8]) -> Option<[u8; 32]>
     let mut i: usize = 0;
     // A `while`, since an escape is a step of four bytes.
     while i < word.len() {
-        let b = byte_at(word, i);
-        if b == 0 {
-            return None;
-        }
+        let b = byte_at(word, i)?;
         if n == 32 {
             return None;
         }

@@ -25,6 +25,7 @@ fn put_dots(text: &mut Text, folders: usize, depth: usize)
     requires { text.old.at + 3 * folders < 2 ^ 64 }
     ensures { Wrote text.old (dots (folders - depth)) (3 * folders) text.new }
 {
+    // The count has a name, since the invariant is on it.
     for k in depth..folders {
         text.put_all(b"..\n");
     }
@@ -35,7 +36,7 @@ fn open_after(t: &[u32], i: usize) -> usize
     requires { 20 * i + 20 ≤ length t.now }
     ensures { (result ≡ opened (row_at t.now i)) × (result ≤ 2 ^ 32) }
 {
-    let d = table_row::word(t, i, 0) as usize;
+    let d = table_row::wide(table_row::word(t, i, 0));
     if table_row::word(t, i, 1) == 0 {
         d + 1
     } else {
@@ -50,7 +51,7 @@ fn put_rows(text: &mut Text, t: &[u32])
 {
     let mut folders = 1;
     for i in 1..t.len() / 20 {
-        let d = table_row::word(t, i, 0) as usize;
+        let d = table_row::wide(table_row::word(t, i, 0));
         put_dots(text, folders, d);
         put_row(text, t, i);
         folders = open_after(t, i);

@@ -21,8 +21,7 @@ fn sixteen(text: &[u8], from: usize, least: u8) -> bool
     ensures { result ≡ true → Past least text.now from (from + 16) }
 {
     let mut all = true;
-    for k in from..from + 16 {
-        let b = text[k];
+    for &b in &text[from..from + 16] {
         if b < least {
             all = false;
         }

@@ -1,4 +1,4 @@
-// A line's words as places in the text, and whether a text's bytes are those of a listing.
+// A line's words as places in the text or one after the other, and whether a text's bytes are those of a listing.
 #![tactic(auto)]
 
 ghost use Rattle.std.specs.Prelude.{◌≡◌, ◌+◌, ◌≤◌, ◌<◌, eqb, length, drop, get_or};
@@ -6,15 +6,13 @@ ghost use Rattle.tree.specs.Same.{same_words};
 ghost use Rattle.listing.specs.Bytes.{class_of};
 ghost use Rattle.listing.specs.Words.{blank, span, is_refused, is_text};
 ghost use Rattle.listing_scan.specs.Places.{skip, stretch, Counted};
+ghost use Rattle.listing_words.specs.First.{IsFirst};
 
 // LF stands at place i.
 fn lf_at(line: &[u8], i: usize) -> bool
     ensures { result ≡ eqb (get_or line.now i 0) 10 }
 {
-    if i < line.len() {
-        return line[i] == 10;
-    }
-    false
+    line.get(i) == Some(&10)
 }
 
 // The byte at place i parts words; most are above 32 and don't.
@@ -68,6 +66,18 @@ pub fn word_end(line: &[u8], from: usize) -> usize
     stretch_end(line, listing_scan::past_plain(line, from, 33), false)
 }
 
+// The first word of what is left of a line, and what is left after it.
+pub fn first_word(rest: &[u8]) -> Option<(&[u8], &[u8])>
+    ensures { IsFirst rest.now result }
+{
+    let a = skip_blanks(rest, 0);
+    if rest.len() <= a {
+        return None;
+    }
+    let e = word_end(rest, a);
+    Some((&rest[a..e], &rest[e..]))
+}
+
 // A byte of number 7; most are from 32 to 126 and are not.
 fn refused(b: u8) -> bool
     ensures { result ≡ is_refused (class_of b) }
@@ -84,8 +94,8 @@ fn refused(b: u8) -> bool
 pub fn all_text(line: &[u8]) -> bool
     ensures { result ≡ is_text line.now }
 {
-    for i in listing_scan::past_plain(line, 0, 32)..line.len() {
-        if refused(line[i]) {
+    for &b in &line[listing_scan::past_plain(line, 0, 32)..] {
+        if refused(b) {
             return false;
         }
     }

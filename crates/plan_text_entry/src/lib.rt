@@ -28,8 +28,8 @@ pub fn put_entry(text: &mut Text, list: &[u32], k: usize, s: Sides)
 {
     put_mark(text, list[3 * k]);
     text.put_all(b" ");
-    let i = list[3 * k + 1] as usize;
-    let j = list[3 * k + 2] as usize;
+    let i = table_row::wide(list[3 * k + 1]);
+    let j = table_row::wide(list[3 * k + 2]);
     plan_text_path::put_side(text, s, i, j);
     text.put_all(b"\n");
 }

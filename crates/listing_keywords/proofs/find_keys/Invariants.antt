@@ -1,11 +1,10 @@
--- `find_keys` meets its contract: what was found is of the words before place i.
+-- `find_keys` meets its contract: what was found is of the words before what is left.
 use lib.ListN.{length}
-use Prim.Native.Nat.{◌-◌}
 use Rattle.listing_keywords.proofs.Found.{Passed}
 use Rattle.listing_keywords.proofs.find_keys.Given as goal
 
-abbrev pub invariant-loop-i : goal.invariant-loop-i
-invariant-loop-i l = Passed l.rest l.i l.h
+abbrev pub invariant-loop-word : goal.invariant-loop-word
+invariant-loop-word l = Passed l.rest l.left l.h
 
-abbrev pub decreases-loop-i : goal.decreases-loop-i
-decreases-loop-i l = length l.rest - l.i
+abbrev pub decreases-loop-word : goal.decreases-loop-word
+decreases-loop-word l = length l.left

@@ -9,11 +9,11 @@ use Rattle.listing_rows.proofs.open_after.Goals as goal
 pub returns-then-word-eq0 : goal.returns-then-word-eq0
 returns-then-word-eq0 c =
     let a = c.args in
-    let e = open-dir (row_at a.t.now a.i) (sym c.word.ensures ∙ c.if-word-eq0.true) in
-    (ap (λ (d : ℕ). d + 1) c.word-d.ensures ∙ sym e, search rules)
+    let e = open-dir (row_at a.t.now a.i) (sym c.word-2.ensures ∙ c.if-word-eq0.true) in
+    (ap (λ (d : ℕ). d + 1) (c.wide-d.ensures.0 ∙ c.word.ensures) ∙ sym e, search rules)
 
 pub returns-else-word-eq0 : goal.returns-else-word-eq0
 returns-else-word-eq0 c =
     let a = c.args in
-    let e = open-leaf (row_at a.t.now a.i) (λ z. c.if-word-eq0.false (c.word.ensures ∙ z)) in
-    (c.word-d.ensures ∙ sym e, search rules)
+    let e = open-leaf (row_at a.t.now a.i) (λ z. c.if-word-eq0.false (c.word-2.ensures ∙ z)) in
+    (c.wide-d.ensures.0 ∙ c.word.ensures ∙ sym e, search rules)

@@ -14,7 +14,7 @@ loop-i-preserved c =
       search rules,
       search rules,
       rw c.open_after-folders.ensures.0
-          (rest_less _ (rest_less _ (rw next at c.loop-i.invariant.3) (rw c.word-d.ensures at c.put_dots.ensures)) c.put_row.ensures),
+          (rest_less _ (rest_less _ (rw next at c.loop-i.invariant.3) (rw (c.wide-d.ensures.0, c.word.ensures) at c.put_dots.ensures)) c.put_row.ensures),
     )
 
 pub returns : goal.returns

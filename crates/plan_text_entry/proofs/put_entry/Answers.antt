@@ -11,5 +11,5 @@ returns c =
     let a = c.args in
     rw (entry-words a.s.left.now a.s.right.now a.list.now a.k)
     (rest-last (2 ^ 21)
-    (rest_less _ (rest_less _ (rest_less _ (rest-all _ _) c.put_mark.ensures) c.put_all.ensures) c.put_side.ensures)
+    (rest_less _ (rest_less _ (rest_less _ (rest-all _ _) c.put_mark.ensures) c.put_all.ensures) (rw (c.wide-i.ensures.0, c.wide-j.ensures.0) at c.put_side.ensures))
     c.put_all-2.ensures (search rules))

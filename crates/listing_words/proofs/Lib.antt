@@ -1,0 +1,2 @@
+-- A line's first word among its words.
+pub mod First

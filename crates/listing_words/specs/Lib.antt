@@ -1,0 +1,2 @@
+-- What taking a word off a line hands back.
+pub mod First
