@@ -8,7 +8,6 @@ use Rattle.std.proofs.lemmas.List.Edits.{map_over_more}
 use Rattle.std.proofs.lemmas.List.{get_or_default}
 use Rattle.std.proofs.lemmas.Slice.{put_mid-paste}
 use Rattle.tree.specs.Key.{lower_word}
-use Rattle.table_row.specs.Buffer.{written}
 use Rattle.table_row.proofs.Buffer.{written-paste}
 use Rattle.table_compare.proofs.Letters.{length-lower}
 use Rattle.table_keys.proofs.lower_name.Goals as goal
@@ -18,13 +17,12 @@ loop-word-init c = refl
 
 pub loop-word-preserved : goal.loop-word-preserved
 loop-word-preserved c =
-    let a = c.args in
     let l = c.loop-word in
     let x = get_or l.word-items l.word-index 0 in
     let h = c.loop-word-test.true in
     let e : x ≡ get_or l.word-items l.word-index x = get_or_default l.word-items l.word-index 0 x (search rules) in
     ap (set l.word-items l.word-index) c.lower_word.ensures
-    ∙ map_over_more lower_word (take (a.at + 8 - a.at) (drop a.at a.t.now)) l.word-items l.word-index x h l.invariant e
+    ∙ map_over_more lower_word _ l.word-items l.word-index x h l.invariant e
 
 -- all words are done
 done : (f : ℕ → ℕ) (s : List ℕ) (k : ℕ) → length s ≤ k → map f (take k s) ++ drop k s ≡ map f s
@@ -38,7 +36,7 @@ returns c =
     let h = c.requires in
     let z : a.at + 8 - a.at ≡ 8 = omega arith in
     let n : length (map lower_word s) ≡ 8 = length-lower s ∙ simp (length-take, length-drop) (omega arith) in
-    let e : c.loop-word.word-items ≡ map lower_word s = rw z at (c.loop-word.invariant ∙ done lower_word (take (a.at + 8 - a.at) (drop a.at t)) c.loop-word.word-index c.loop-word-test.false) in
-    put_mid-paste a.at (a.at + 8 - a.at) t c.loop-word.word-items (map lower_word s) 8 e (sym z) (sym n)
+    let e : c.loop-word.word-items ≡ map lower_word s = rw z at (c.loop-word.invariant ∙ done lower_word _ c.loop-word.word-index c.loop-word-test.false) in
+    put_mid-paste a.at _ t c.loop-word.word-items (map lower_word s) 8 e (sym z) (sym n)
     ∙ ap (paste t a.at (map lower_word s)) (sym n)
     ∙ written-paste t (map lower_word s) a.at
