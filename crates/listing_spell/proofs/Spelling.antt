@@ -7,9 +7,6 @@ use lib.ListN.{length, drop, get_or, drop_of_length-le}
 use lib.Seq.{drop-cons}
 use Prim.Native.Nat.{ℕ, ◌+◌, ◌/◌, ◌%◌, ◌≤◌, ◌<◌}
 use borrow.Author.Tests.{eq-eqb, ne_eqb}
-use Rattle.std.specs.Int.{to_be_bytes}
-use Rattle.std.proofs.Common.{w32}
-use Rattle.tree.specs.Rules.{bytes}
 use Rattle.listing.specs.Writing.{spell_byte, spell, hex_digit, hex}
 
 module _ (bs : List ℕ) (k : ℕ) where
@@ -34,8 +31,3 @@ module _ (bs : List ℕ) (k : ℕ) where
   pub hex-end : length bs ≤ k → hex (drop k bs) ≡ []
   unfolding hex
   hex-end h = rw (drop_of_length-le bs h)
-
--- a word's bytes, the highest first
-pub be-bytes : (x : ℕ) → x < 4294967296 → to_be_bytes w32 x ≡ bytes (x ∷ [])
-unfolding bytes
-be-bytes x h = let e : x / 16777216 % 256 ≡ x / 16777216 = omega arith in rw e

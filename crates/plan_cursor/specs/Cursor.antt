@@ -1,5 +1,5 @@
 -- Three tables looked at through a row number of each; 4,294,967,295 is no row.
-use Rattle.std.specs.Prelude.{List, [], ◌∷◌, Bool, false, cond, ltb, eqb, length, drop, ℕ, suc, ◌+◌, ◌/◌}
+use Rattle.std.specs.Prelude.{List, [], ◌∷◌, Bool, false, Option, Some, None, cond, ltb, eqb, length, drop, ℕ, suc, ◌≡◌, ◌+◌, ◌/◌, ◌≤◌, ◌<◌}
 use Rattle.std.specs.Ordering.{is_le, ordering_reverse}
 use Rattle.std.specs.declared.cmp.Ordering.{Ordering as Order}
 use Rattle.std.specs.declared.cmp.Ordering.TheVariants.{Less, Equal, Greater}
@@ -17,6 +17,11 @@ none = 4294967295
 
 abbrev pub is_row : List ℕ → ℕ → Bool
 is_row w i = ltb i (length w / 20)
+
+-- row i of a table, where it has one
+abbrev pub HasRow : List ℕ → ℕ → Option ℕ → Type 0
+HasRow w i (Some j) = (j ≡ i) × (i < length w / 20)
+HasRow w i None = length w / 20 ≤ i
 
 -- the first row of depth d among rows, the first of which is row i, before any that is less deep
 unfoldable pub seek : ℕ → ℕ → List Row → ℕ

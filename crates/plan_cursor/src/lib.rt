@@ -2,7 +2,7 @@
 #![tactic(auto)]
 
 ghost use Rattle.std.specs.Prelude.{◌≡◌, true, ◌+◌, ◌*◌, ◌%◌, ◌≤◌, length};
-ghost use Rattle.plan_cursor.specs.Cursor.{is_row, from, order_at, keep, least, behind, is_folder, decision};
+ghost use Rattle.plan_cursor.specs.Cursor.{is_row, HasRow, from, order_at, keep, least, behind, is_folder, decision};
 
 pub mod tables;
 
@@ -31,11 +31,19 @@ pub enum Decision {
 // No table has this row.
 const NONE: u32 = 4294967295;
 
+// Row i as an index, where a table has it.
+fn row_of(t: &[u32], i: u32) -> Option<usize>
+    ensures { HasRow t.now i result }
+{
+    let j = table_row::wide(i);
+    if j < t.len() / 20 { Some(j) } else { None }
+}
+
 // Whether a table has row i.
 pub fn is_row(t: &[u32], i: u32) -> bool
     ensures { result ≡ is_row t.now i }
 {
-    table_row::wide(i) < t.len() / 20
+    row_of(t, i).is_some()
 }
 
 // The first row of depth d from row i on, before any that is less deep.
@@ -61,18 +69,16 @@ pub fn scan(t: &[u32], i: usize, d: u32) -> u32
 pub fn order_at(w: &[u32], a: u32, v: &[u32], b: u32) -> Ordering
     ensures { result ≡ order_at w.now a v.now b }
 {
-    let i = table_row::wide(a);
-    let j = table_row::wide(b);
-    if i < w.len() / 20 {
-        if j < v.len() / 20 {
-            return table_compare::compare_names(w, i, v, j);
-        }
-        return Ordering::Less;
+    match row_of(w, a) {
+        Some(i) => match row_of(v, b) {
+            Some(j) => table_compare::compare_names(w, i, v, j),
+            None => Ordering::Less,
+        },
+        None => match row_of(v, b) {
+            Some(_) => Ordering::Greater,
+            None => Ordering::Equal,
+        },
     }
-    if j < v.len() / 20 {
-        return Ordering::Greater;
-    }
-    Ordering::Equal
 }
 
 // Row a, where neither order says that its name comes after another.
@@ -86,19 +92,16 @@ fn kept(a: u32, x: Ordering, y: Ordering) -> u32
 fn same_heads(t: Tables, h: Rows) -> bool
     ensures { result ≡ true → least t.entry.o.now t.entry.l.now t.entry.r.now h ≡ h }
 {
-    let a = table_row::wide(h.o);
-    let b = table_row::wide(h.l);
-    let c = table_row::wide(h.r);
-    if a < t.o.len() / 20 {
-        if b < t.l.len() / 20 {
-            if c < t.r.len() / 20 {
-                if table_compare::same_names(t.l, b, t.r, c) {
-                    return table_compare::same_names(t.o, a, t.l, b);
-                }
-            }
-        }
-    }
-    false
+    let Some(a) = row_of(t.o, h.o) else {
+        return false;
+    };
+    let Some(b) = row_of(t.l, h.l) else {
+        return false;
+    };
+    let Some(c) = row_of(t.r, h.r) else {
+        return false;
+    };
+    table_compare::same_names(t.l, b, t.r, c) && table_compare::same_names(t.o, a, t.l, b)
 }
 
 // Of three heads those with the least name; where all have one name, as most do, that is told first.
@@ -130,11 +133,9 @@ pub fn behind_at(w: &[u32], d: u32, a: u32, t: u32) -> u32
     requires { length w.now ≤ 81920 }
     ensures { result ≡ behind w.now d a t }
 {
-    let i = table_row::wide(t);
-    if i < w.len() / 20 {
-        scan(w, i + 1, d)
-    } else {
-        a
+    match row_of(w, t) {
+        Some(i) => scan(w, i + 1, d),
+        None => a,
     }
 }
 
@@ -143,12 +144,9 @@ pub fn behind_at(w: &[u32], d: u32, a: u32, t: u32) -> u32
 pub fn is_folder(t: &[u32], i: u32) -> bool
     ensures { result ≡ is_folder t.now i }
 {
-    let j = table_row::wide(i);
-    if j < t.len() / 20 {
-        let k = table_row::word(t, j, 1);
-        k == 0
-    } else {
-        false
+    match row_of(t, i) {
+        Some(j) => table_row::word(t, j, 1) == 0,
+        None => false,
     }
 }
 

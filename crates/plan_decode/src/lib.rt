@@ -35,9 +35,7 @@ pub fn one_row(t: &[u32], i: u32) -> &[u32]
 {
     let j = table_row::wide(i);
     if j < t.len() / 20 {
-        let a = 20 * j;
-        let e = a + 20;
-        &t[a..e]
+        table_row::row(t, j)
     } else {
         &t[0..0]
     }

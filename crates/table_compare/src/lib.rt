@@ -78,7 +78,8 @@ pub fn same_names(a: &[u32], i: usize, b: &[u32], j: usize) -> bool
     same
 }
 
-// The order of the names of row i of a and row j of b.
+// The order of the names of row i of a and row j of b, as they are; compare_rows of table_row_rules is that of the keys in one
+// table. Both stand, since what each promises, and those who call it rely on, is a contract of its own.
 pub fn compare_names(a: &[u32], i: usize, b: &[u32], j: usize) -> Ordering
     requires { (20 * i + 20 ≤ length a.now) × (20 * j + 20 ≤ length b.now) }
     ensures { result ≡ ordered (cmp (name (row_at a.now i)) (name (row_at b.now j))) }

@@ -14,8 +14,8 @@ fn lower_name(t: &mut [u32], at: usize)
     requires { at + 8 ≤ length t.old }
     ensures { t.new ≡ written t.old at (map lower_word (take 8 (drop at t.old))) }
 {
-    for i in 0..8 {
-        t[at + i] = table_compare::lower_word(t[at + i]);
+    for word in &mut t[at..at + 8] {
+        *word = table_compare::lower_word(*word);
     }
 }
 
@@ -25,11 +25,11 @@ pub fn key_name(profile: Profile, n: [u32; 8]) -> [u32; 8]
 {
     match profile {
         Profile::Exact => n,
-        Profile::Folded => {
-            let mut k = n;
-            lower_name(&mut k, 0);
-            k
-        }
+        Profile::Folded => n.map(
+            |word: u32| -> u32
+                ensures { result ≡ lower_word word }
+            { table_compare::lower_word(word) },
+        ),
     }
 }
 

@@ -10,6 +10,8 @@ use lib.Seq.{drop-cons, take_all}
 use Prim.Native.Nat.{ℕ, zero, suc, ◌+◌, ◌-◌, ◌*◌, ◌/◌, ◌%◌, ◌≤◌, ◌<◌}
 use lib.Dec.{eqb}
 use borrow.Author.Tests.{eq-eqb, eqb-true, ne_eqb}
+use Rattle.std.specs.Int.{to_be_bytes}
+use Rattle.std.proofs.Common.{w32}
 use Rattle.tree.specs.Rules.{zeros, bytes, zero_filled}
 use Rattle.table_names.specs.Low.{low_bytes}
 
@@ -45,6 +47,11 @@ module _ (s : List ℕ) (k : ℕ) where
 -- a part that goes to the end is what is left
 pub rest-is : (s : List ℕ) (k : ℕ) → take (length s - k) (drop k s) ≡ drop k s
 rest-is s k = take_all (length s - k) (drop k s) (omega (arith, length-drop k s))
+
+-- a word's bytes, the highest first
+pub be-bytes : (x : ℕ) → x < 4294967296 → to_be_bytes w32 x ≡ bytes (x ∷ [])
+unfolding bytes
+be-bytes x h = let e : x / 16777216 % 256 ≡ x / 16777216 = omega arith in rw e
 
 -- byte k is byte k % 4 of word k / 4
 pub byte-is : (w : List ℕ) (k : ℕ) → k < 4 * length w → get_or (bytes (get_or w (k / 4) 0 ∷ [])) (k % 4) 0 ≡ get_or (bytes w) k 0

@@ -20,20 +20,11 @@ pub fn all_zero(s: &[u32]) -> bool
 }
 
 // Byte j of a word, the highest first.
-fn byte_of(x: u32, j: usize) -> u32
+fn byte_of(x: u32, j: usize) -> u8
     requires { j < 4 }
     ensures { result ≡ get_or (bytes (x ∷ [])) j 0 }
 {
-    if j == 0 {
-        return x / 16777216;
-    }
-    if j == 1 {
-        return x / 65536 % 256;
-    }
-    if j == 2 {
-        return x / 256 % 256;
-    }
-    x % 256
+    x.to_be_bytes()[j]
 }
 
 // The bytes of a word from byte j on, as a number.
@@ -41,16 +32,12 @@ fn low_bytes(x: u32, j: usize) -> u32
     requires { j < 4 }
     ensures { result ≡ low_bytes x j }
 {
-    if j == 0 {
-        return x;
+    match j {
+        0 => x,
+        1 => x % 16777216,
+        2 => x % 65536,
+        _ => x % 256,
     }
-    if j == 1 {
-        return x % 16777216;
-    }
-    if j == 2 {
-        return x % 65536;
-    }
-    x % 256
 }
 
 // Whether the bytes of a name are zero from one on: those of its word, and the words after that.

@@ -21,8 +21,8 @@ fn slot_ok(name: [u32; 8], within: bool) -> bool
 fn slots_ok(names: [[u32; 8]; 16], depth: usize) -> bool
     ensures { result ≡ slots depth names }
 {
-    for i in 0..16 {
-        if !slot_ok(names[i], i < depth) {
+    for (i, &name) in names.iter().enumerate() {
+        if !slot_ok(name, i < depth) {
             return false;
         }
     }
@@ -33,13 +33,10 @@ fn slots_ok(names: [[u32; 8]; 16], depth: usize) -> bool
 pub fn path_ok(names: [[u32; 8]; 16], depth: usize) -> bool
     ensures { result ≡ path_rule names depth }
 {
-    if depth < 1 {
-        return false;
+    match depth {
+        1..=16 => slots_ok(names, depth),
+        _ => false,
     }
-    if 16 < depth {
-        return false;
-    }
-    slots_ok(names, depth)
 }
 
 // The keys of a path's names.

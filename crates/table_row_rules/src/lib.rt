@@ -52,7 +52,7 @@ pub fn kind_ok(t: &[u32], i: usize) -> bool
     k == 1
 }
 
-// The order of the names of rows i and j by their keys.
+// The order of the names of rows i and j by their keys; compare_names of table_compare is that of names as they are in two tables.
 pub fn compare_rows(profile: Profile, t: &[u32], i: usize, j: usize) -> Ordering
     requires { (20 * i + 20 ≤ length t.now) × (20 * j + 20 ≤ length t.now) }
     ensures { result ≡ ordered (cmp (key profile (name (row_at t.now i))) (key profile (name (row_at t.now j)))) }

@@ -75,9 +75,7 @@ fn shift(t: &mut [u32], a: usize, e: usize)
     requires { (a ≤ e) × (e + 20 ≤ length t.old) }
     ensures { t.new ≡ written t.old (a + 20) (take (e - a) (drop a t.old)) }
 {
-    for k in (a..e).rev() {
-        t[k + 20] = t[k];
-    }
+    t.copy_within(a..e, a + 20);
 }
 
 // A row put in as row i of the first count rows of a table.

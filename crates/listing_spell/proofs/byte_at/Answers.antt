@@ -1,7 +1,6 @@
 -- `listing_spell::byte_at` meets its contract: byte k is one of word k / 4.
 use Rattle.std.proofs.Common.{rules, arith, ap, ◌∙◌, List, get_or, ℕ, ◌%◌, ◌/◌}
-use Rattle.table_names.proofs.Words.{byte-is}
-use Rattle.listing_spell.proofs.Spelling.{be-bytes}
+use Rattle.table_names.proofs.Words.{be-bytes, byte-is}
 use Rattle.listing_spell.proofs.byte_at.Goals as goal
 
 pub returns : goal.returns

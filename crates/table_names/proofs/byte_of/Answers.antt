@@ -1,23 +1,9 @@
--- `table_names::byte_of` meets its contract: each of the four bytes by its division.
-use mathlib.Core.Path.{◌≡◌}
-use borrow.Author.Rules.{rules}
-use Rattle.tree.specs.Rules.{bytes}
+-- `table_names::byte_of` meets its contract: a word's bytes, one of which is taken.
+use Rattle.std.proofs.Common.{rules, ap, ◌∙◌, List, get_or, ℕ}
+use Rattle.table_names.proofs.Words.{be-bytes}
 use Rattle.table_names.proofs.byte_of.Goals as goal
 
-pub returns-then-j-eq0 : goal.returns-then-j-eq0
-unfolding bytes
-returns-then-j-eq0 c = rw c.if-j-eq0.true
-
-pub returns-then-j-eq1 : goal.returns-then-j-eq1
-unfolding bytes
-returns-then-j-eq1 c = rw c.if-j-eq1.true
-
-pub returns-then-j-eq2 : goal.returns-then-j-eq2
-unfolding bytes
-returns-then-j-eq2 c = rw c.if-j-eq2.true
-
 pub returns : goal.returns
-unfolding bytes
 returns c =
-    let e : c.args.j ≡ 3 = search rules in
-    rw e
+    let a = c.args in
+    ap (λ (l : List ℕ). get_or l a.j 0) (c.to_be_bytes.ensures ∙ be-bytes a.x (search rules))

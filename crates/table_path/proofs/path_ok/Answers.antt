@@ -1,16 +1,17 @@
 -- `table_path::path_ok` meets its contract: test by test.
+use borrow.Author.Rules.{rules}
 use borrow.Author.Tests.{le-leb, lt-leb}
 use Rattle.table_moved.specs.Path.{path_rule}
 use Rattle.table_path.proofs.path_ok.Goals as goal
 
-pub returns-then-depth-lt1 : goal.returns-then-depth-lt1
+pub returns-in-1-to-16 : goal.returns-in-1-to-16
 unfolding path_rule
-returns-then-depth-lt1 c = rw (lt-leb _ _ c.if-depth-lt1.true)
+returns-in-1-to-16 c = rw (le-leb 1 c.args.depth (search rules), le-leb c.args.depth 16 (search rules)) c.slots_ok.ensures
 
-pub returns-then-depth-gt16 : goal.returns-then-depth-gt16
+pub returns-in_default : goal.returns-in_default
 unfolding path_rule
-returns-then-depth-gt16 c = rw (le-leb _ _ c.if-depth-lt1.false, lt-leb _ _ c.if-depth-gt16.true)
+returns-in_default c = rw (lt-leb 1 c.args.depth (search rules))
 
-pub returns : goal.returns
+pub returns-in_default-2 : goal.returns-in_default-2
 unfolding path_rule
-returns c = rw (le-leb _ _ c.if-depth-lt1.false, le-leb _ _ c.if-depth-gt16.false) c.slots_ok.ensures
+returns-in_default-2 c = rw (le-leb 1 c.args.depth (search rules), lt-leb c.args.depth 16 (search rules))

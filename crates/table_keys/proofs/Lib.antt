@@ -1,0 +1,2 @@
+-- Laws of words that are lowered.
+pub mod Words
