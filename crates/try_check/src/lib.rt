@@ -12,7 +12,7 @@ fn tell_check(rt: &impl Print, line: &[u8], words: &[u32], n: usize) -> io::Resu
         return Ok(());
     };
     try_show::print_case(rt, line)?;
-    try_show::print_answer(rt, table_answers::check_table(Profile::Exact, table))?;
+    try_case::tell_check(rt, Profile::Exact, table)?;
     println!(rt;)
 }
 

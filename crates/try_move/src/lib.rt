@@ -19,7 +19,7 @@ fn path_of(line: &[u8], k: usize) -> [[u32; 8]; 16] {
     try_spelling::slots(try_fields::field(line, k).iter().map(|&b| slot_of(b)))
 }
 
-// A move with the first words of a room.
+// A line, and its move with the first words of a room.
 pub fn tell_move(
     rt: &impl Print,
     line: &[u8],
@@ -30,13 +30,18 @@ pub fn tell_move(
     res: &mut [u32],
     room: usize,
 ) -> io::Result<()> {
-    let Some(lent) = res.get_mut(..room) else {
-        return Ok(());
-    };
     try_show::print_case(rt, line)?;
-    let answer = table_move::make_move(Profile::Exact, target, source, names, depth, lent);
-    let rows = try_show::print_answer(rt, answer)?;
-    try_show_rows::print_result(rt, res, rows, try_show_rows::print_small)?;
+    try_case::tell_move(
+        rt,
+        Profile::Exact,
+        target,
+        source,
+        names,
+        depth,
+        res,
+        room,
+        try_show_rows::print_small,
+    )?;
     println!(rt;)
 }
 

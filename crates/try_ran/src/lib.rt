@@ -3,8 +3,16 @@
 
 ghost use Rattle.std.specs.Prelude.{◌≤◌};
 
-use plan_run::Ran;
+use plan_run::{Counts, Ran};
 use std::io;
+
+// What a refused run leaves in the buffers.
+const NONE: Counts = Counts {
+    archive: 0,
+    left: 0,
+    right: 0,
+    list: 0,
+};
 
 // The words of a room: those in field k of a line, or all of it where the line has no such field.
 pub fn room(line: &[u8], k: usize, most: usize) -> usize
@@ -16,17 +24,14 @@ pub fn room(line: &[u8], k: usize, most: usize) -> usize
     try_fields::count(line, k).min(most)
 }
 
-// What was answered, and the tally.
-pub fn print_ran(rt: &impl Print, ran: Ran) -> io::Result<()> {
-    match ran.answer {
-        Ok(n) => print!(rt;
-            " 0 0 0 counts {} {} {} {}",
-            n.archive, n.left, n.right, n.list
-        )?,
-        Err(r) => print!(rt; " {} {} {} counts 0 0 0 0", r.number, r.side, r.place)?,
-    }
+// What was answered, and the tally; the rows and entries that are left.
+pub fn print_ran(rt: &impl Print, ran: Ran) -> io::Result<Counts> {
+    try_show::print_answer(rt, ran.answer.map(|_| 0))?;
+    let n = ran.answer.unwrap_or(NONE);
+    print!(rt; " counts {} {} {} {}", n.archive, n.left, n.right, n.list)?;
     let t = ran.tally;
-    print!(rt; " tally {} {} {}", t.left, t.right, t.clash)
+    print!(rt; " tally {} {} {}", t.left, t.right, t.clash)?;
+    Ok(n)
 }
 
 // Each of some words.

@@ -7,32 +7,6 @@
 use std::io;
 use tree::Profile;
 
-// A run with buffers of its own.
-fn try_run(rt: &impl Print, line: &[u8], o: &[u32], l: &[u32], r: &[u32]) -> io::Result<()> {
-    let mut archive = [try_show::CANARY; 200];
-    let mut left = [try_show::CANARY; 200];
-    let mut right = [try_show::CANARY; 200];
-    let mut list = [try_show::CANARY; 30];
-    let n = try_run::tell_run(
-        rt,
-        Profile::Exact,
-        line,
-        o,
-        l,
-        r,
-        &mut archive,
-        &mut left,
-        &mut right,
-        &mut list,
-    )?;
-    try_show_rows::print_results(
-        rt,
-        [(&archive, n.archive), (&left, n.left), (&right, n.right)],
-        try_show_rows::print_small,
-    )?;
-    println!(rt;)
-}
-
 // The tables of a line, and a run on them.
 fn try_line(rt: &impl Print, line: &[u8]) -> io::Result<()> {
     let mut o = [0u32; 200];
@@ -42,7 +16,16 @@ fn try_line(rt: &impl Print, line: &[u8]) -> io::Result<()> {
     let b = try_sample::fill(line, 2, &mut l);
     let c = try_sample::fill(line, 3, &mut r);
     try_show::print_case(rt, line)?;
-    try_run(rt, line, &o[..a], &l[..b], &r[..c])
+    try_run_in::run_on::<200, 30, _, _>(
+        rt,
+        Profile::Exact,
+        line,
+        &o[..a],
+        &l[..b],
+        &r[..c],
+        try_show_rows::print_small,
+    )?;
+    println!(rt;)
 }
 
 // Every line of the input.

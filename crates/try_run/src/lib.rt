@@ -6,14 +6,6 @@ use plan_tally::Tally;
 use std::io;
 use tree::Profile;
 
-// What a refused run leaves in the buffers.
-const NONE: Counts = Counts {
-    archive: 0,
-    left: 0,
-    right: 0,
-    list: 0,
-};
-
 // A run with the rooms of a line, at the start of buffers; the rows and entries that it leaves there.
 pub fn tell_run(
     rt: &impl Print,
@@ -46,8 +38,7 @@ pub fn tell_run(
             clash: 9,
         },
     );
-    let n = ran.answer.unwrap_or(NONE);
-    try_ran::print_ran(rt, ran)?;
+    let n = try_ran::print_ran(rt, ran)?;
     try_ran::print_list(rt, list, n.list)?;
     Ok(n)
 }

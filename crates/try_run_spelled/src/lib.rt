@@ -16,7 +16,15 @@ fn run_in(
     let a = try_spelled::fill(line, 1, o);
     let b = try_spelled::fill(line, 2, l);
     let c = try_spelled::fill(line, 3, r);
-    try_run_in::run_on(rt, profile, line, &o[..a], &l[..b], &r[..c])
+    try_run_in::run_on::<81980, 24600, _, _>(
+        rt,
+        profile,
+        line,
+        &o[..a],
+        &l[..b],
+        &r[..c],
+        try_show_spelled::print_row,
+    )
 }
 
 // A line `run`.

@@ -1,4 +1,5 @@
-// Prints numbers and answers, for the programs that try the calls.
+// The sum of some words, how many of them a call left alone, and prints of a case and of its answer, for the programs that
+// try the calls.
 #![tactic(auto)]
 
 ghost use Rattle.std.specs.Prelude.{◌≤◌, ◌<◌};

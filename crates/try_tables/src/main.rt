@@ -9,35 +9,22 @@
 use std::io;
 use tree::Profile;
 
-// The rows that are carried.
-fn tell_rows(rt: &impl Print, line: &[u8], rows: &[u32]) -> io::Result<()> {
-    try_show::print_case(rt, line)?;
-    print!(rt; " {}", rows.len() / 20)?;
-    try_show_rows::print_rows(rt, rows, try_show_rows::print_small)?;
-    println!(rt; " {}", try_show::sum(rows))
-}
-
 // A line `entry`.
 fn try_entry(rt: &impl Print, line: &[u8]) -> io::Result<()> {
     let mut left = [0u32; 400];
     let n = try_sample::fill(line, 1, &mut left);
     let mut right = [0u32; 400];
     let m = try_sample::fill(line, 2, &mut right);
-    let kind = try_fields::small(line, 3);
-    let left_row = try_fields::small(line, 4);
-    let right_row = try_fields::small(line, 5);
-    tell_rows(
+    try_show::print_case(rt, line)?;
+    try_case::tell_entry(
         rt,
+        Profile::Exact,
         line,
-        table_carry::carried(
-            Profile::Exact,
-            &left[..n],
-            &right[..m],
-            kind,
-            left_row,
-            right_row,
-        ),
-    )
+        &left[..n],
+        &right[..m],
+        try_show_rows::print_small,
+    )?;
+    println!(rt;)
 }
 
 // One line, by its first letter.

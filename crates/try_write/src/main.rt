@@ -9,19 +9,14 @@ use tree::Profile;
 
 // Writes a table into the lent bytes, prints the text, and tells the answer, a number, a side and a place; the bytes written.
 fn show(rt: &impl Print, table: &[u32], text: &mut [u8]) -> io::Result<usize> {
-    match listing_write::write(Profile::Exact, table, text) {
-        Ok(bytes) => {
-            if let Some(written) = text.get(..bytes) {
-                rt.write_all(written)?;
-            }
-            println!(rt; "# 0 0 {bytes}")?;
-            Ok(bytes)
-        }
-        Err(refusal) => {
-            println!(rt; "# {} {} {}", refusal.number, refusal.side, refusal.place)?;
-            Ok(0)
-        }
+    let answer = listing_write::write(Profile::Exact, table, text);
+    if let Some(written) = text.get(..answer.unwrap_or(0)) {
+        rt.write_all(written)?;
     }
+    print!(rt; "#")?;
+    let bytes = try_show::print_answer(rt, answer)?;
+    println!(rt;)?;
+    Ok(bytes)
 }
 
 // With only the first n bytes lent.

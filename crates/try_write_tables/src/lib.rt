@@ -1,7 +1,7 @@
 // Tables with every byte that a name may hold, with sizes at their limits, and with a path of depth 16.
 #![tactic(auto)]
 
-ghost use Rattle.std.specs.Prelude.{◌≡◌, ◌<◌, length};
+ghost use Rattle.std.specs.Prelude.{◌<◌};
 
 // Byte j of all that a name may hold, 1 to 255 but 47; zero past them.
 fn byte(j: u8) -> u8 {
@@ -28,10 +28,7 @@ fn row_of(k: usize) -> usize
 }
 
 // Eight files, whose names and digests hold those bytes.
-pub fn fill_files(table: &mut [u32; 520])
-    requires { length table.old ≡ 520 }
-    ensures { length table.new ≡ 520 }
-{
+pub fn fill_files(table: &mut [u32; 520]) {
     for i in 0..64 {
         let at = 20 * row_of(i / 8);
         let word = four(4 * (i as u8));
@@ -44,8 +41,7 @@ pub fn fill_files(table: &mut [u32; 520])
 
 // The size of file k.
 fn set_size(table: &mut [u32; 520], k: usize, high: u32, low: u32)
-    requires { (length table.old ≡ 520) × (k < 8) }
-    ensures { length table.new ≡ 520 }
+    requires { k < 8 }
 {
     let at = 20 * row_of(k);
     table[at + 10] = high;
@@ -53,10 +49,7 @@ fn set_size(table: &mut [u32; 520], k: usize, high: u32, low: u32)
 }
 
 // 0, 9, 10, 99, 100, 2^32 - 1, 2^32 and 2^64 - 1.
-pub fn fill_sizes(table: &mut [u32; 520])
-    requires { length table.old ≡ 520 }
-    ensures { length table.new ≡ 520 }
-{
+pub fn fill_sizes(table: &mut [u32; 520]) {
     set_size(table, 1, 0, 9);
     set_size(table, 2, 0, 10);
     set_size(table, 3, 0, 99);
@@ -67,10 +60,7 @@ pub fn fill_sizes(table: &mut [u32; 520])
 }
 
 // A folder `empty`, then sixteen folders `p`, one in the other.
-pub fn fill_folders(table: &mut [u32; 520])
-    requires { length table.old ≡ 520 }
-    ensures { length table.new ≡ 520 }
-{
+pub fn fill_folders(table: &mut [u32; 520]) {
     table[100] = 1;
     table[102] = 0x656D7074;
     table[103] = 0x79000000;
