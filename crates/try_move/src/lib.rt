@@ -30,6 +30,9 @@ pub fn tell_move(
     res: &mut [u32],
     room: usize,
 ) -> io::Result<()> {
+    if res.len() < room {
+        return Ok(());
+    }
     try_show::print_case(rt, line)?;
     try_case::tell_move(
         rt,

@@ -8,15 +8,6 @@ pub fn digit(b: u8) -> u32 {
     u32::from(b).saturating_sub(48)
 }
 
-// The kind of a byte: d is a folder, f a file, and any other a kind that there is not.
-pub fn kind_of(b: u8) -> u32 {
-    match b {
-        b'd' => 0,
-        b'f' => 1,
-        _ => 2,
-    }
-}
-
 // The first word of a name of one byte.
 pub fn name_of(b: u8) -> u32 {
     if b == b'_' {

@@ -4,6 +4,15 @@
 
 ghost use Rattle.std.specs.Prelude.{◌≡◌, ◌≤◌, ◌<◌, length};
 
+// The kind of a byte: d is a folder, f a file, and any other a kind that there is not.
+fn kind_of(b: u8) -> u32 {
+    match b {
+        b'd' => 0,
+        b'f' => 1,
+        _ => 2,
+    }
+}
+
 // The rows of the table in field k of a line, at the start of a table; their words.
 pub fn fill(line: &[u8], k: usize, table: &mut [u32]) -> usize
     ensures { (result ≤ length table.old) × (length table.new ≡ length table.old) }
@@ -17,7 +26,7 @@ pub fn fill(line: &[u8], k: usize, table: &mut [u32]) -> usize
             table,
             words / 20,
             try_rows::digit(depth),
-            try_rows::kind_of(kind),
+            kind_of(kind),
             try_rows::name_of(name),
             try_rows::digit(size),
         );

@@ -4,6 +4,11 @@
 
 ghost use Rattle.std.specs.Prelude.{◌≡◌, ◌≤◌, ◌<◌, length};
 
+// The kind of a byte: d is a folder, and any other a file.
+fn kind_of(b: u8) -> u32 {
+    if b == b'd' { 0 } else { 1 }
+}
+
 // A row at a place of a table, whose words are zero.
 pub fn put_row(row: &[u8], table: &mut [u32], words: usize) -> usize
     requires { words ≤ length table.old }
@@ -17,7 +22,7 @@ pub fn put_row(row: &[u8], table: &mut [u32], words: usize) -> usize
     }
     let name = try_spelling::name_of(name);
     let depth = try_rows::digit(*depth);
-    let kind = try_rows::kind_of(*kind);
+    let kind = kind_of(*kind);
     let size = try_rows::digit(*size);
     try_rows::put_row(table, words / 20, depth, kind, name[0], size);
     table[words + 2..words + 10].copy_from_slice(&name);
