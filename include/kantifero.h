@@ -50,8 +50,8 @@
    MEMORY. A pointer comes with the number of words or bytes behind it. No pointer may be null, also where that number
    is 0, and each has the alignment of its type. Nothing that a call writes may overlap anything else that the call is
    given. Nothing is kept after a call, and nothing is allocated; a call may be made from any thread. Of stack,
-   kantifero_reconcile uses about 200 kB where every byte counts and 1.33 MB where letter case is ignored, kantifero_move 21 kB
-   and 780 kB, and the others less than 3 kB. */
+   kantifero_reconcile uses about 200 kB where every byte counts and 1.2 MB where letter case is ignored, kantifero_move 5 kB
+   and 670 kB, and the others less than 3 kB. */
 #ifndef KANTIFERO_H
 #define KANTIFERO_H
 
