@@ -67,12 +67,14 @@ pub fn same_rows(a: &[u32], i: usize, b: &[u32], j: usize) -> bool
 }
 
 // All of src into dst at place at; the next place. A buffer and a place in it are no struct: the laws of `written` and `Writes` are
-// on both, and most callers write once.
+// on both, and most callers write once. Word by word, since `copy_from_slice` of a length that is not known calls memmove, and the
+// archive for C needs no name from outside but memcpy and memset.
 pub fn copy_words(src: &[u32], dst: &mut [u32], at: usize) -> usize
     requires { at + length src.now ≤ length dst.old }
     ensures { (result ≡ at + length src.now) × (dst.new ≡ written dst.old at src.now) }
 {
-    let end = at + src.len();
-    dst[at..end].copy_from_slice(src);
-    end
+    for i in 0..src.len() {
+        dst[at + i] = src[i];
+    }
+    at + src.len()
 }
