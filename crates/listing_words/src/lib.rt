@@ -66,7 +66,9 @@ pub fn word_end(line: &[u8], from: usize) -> usize
     stretch_end(line, listing_scan::past_plain(line, from, 33), false)
 }
 
-// The first word of what is left of a line, and what is left after it.
+// The first word of what is left of a line, and what is left after it. Inlined into the loops over a line's words, which are most
+// of the time of lines of many.
+#[inline(always)]
 pub fn first_word(rest: &[u8]) -> Option<(&[u8], &[u8])>
     ensures { IsFirst rest.now result }
 {

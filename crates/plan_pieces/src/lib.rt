@@ -9,7 +9,8 @@ ghost use Rattle.plan_results.specs.Pieces.{source_words, named, name_row, piece
 use plan_cursor::{Decision, Rows, Tables};
 use plan_results::{Source, Tree};
 
-// A source's words.
+// A source's words. Inlined, since whoever asks for their number alone needs no more of them.
+#[inline(always)]
 fn source_part<'a>(t: Tables<'a>, s: Source) -> &'a [u32]
     ensures { result.now ≡ source_words t.entry.o.now t.entry.l.now t.entry.r.now s }
 {
