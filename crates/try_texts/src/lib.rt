@@ -15,10 +15,9 @@ fn pad(text: &mut [u8], n: usize, to: usize) -> usize
     requires { n ≤ length text.old }
     ensures { (result ≤ length text.old) × (length text.new ≡ length text.old) }
 {
-    let mut end = try_bytes::put(text, n, b"#");
-    for _ in n + 2..to {
-        end = try_bytes::put(text, end, b"-");
-    }
+    let start = try_bytes::put(text, n, b"#");
+    let end = start + to.saturating_sub(n + 2).min(text.len() - start);
+    text[start..end].fill(b'-');
     try_bytes::put(text, end, b"\n")
 }
 
@@ -27,13 +26,16 @@ fn letter(i: u32) -> u8 {
     (97 + i % 16) as u8
 }
 
-// A root, and folders in it with names of three letters: folder i has the name of i times the step.
+// A root, and folders in it with names of three letters, as far as there is room: folder i has the name of i times the step.
 fn grow(text: &mut [u8], count: u32, step: u32) -> usize
     ensures { (result ≤ length text.old) × (length text.new ≡ length text.old) }
 {
     let mut n = try_bytes::put(text, 0, b"/set type=dir\n.\n");
     let mut k = 0;
     for _ in 0..count {
+        if n == text.len() {
+            return n;
+        }
         k = (k + step % 4096) % 4096;
         n = try_bytes::put(text, n, &[letter(k / 256), letter(k / 16), letter(k)]);
         n = try_bytes::put(text, n, b"\n..\n");
