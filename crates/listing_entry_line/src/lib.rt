@@ -31,7 +31,7 @@ pub fn root_line(rest: &[u8], room: usize, s: Reader) -> Result<Reader, u32>
     if s.count != 0 {
         return Err(11);
     }
-    listing_held::root_of(rest, s.default)?;
+    listing_held::root_of(rest, Ok(s.default))?;
     if room < 20 {
         return Err(3);
     }
@@ -55,6 +55,6 @@ pub fn entry_line(
     let Some(name) = listing_names::name_of(word) else {
         return Err(8);
     };
-    let content = listing_held::entry_of(rest, s.default)?;
+    let content = listing_held::entry_of(rest, Ok(s.default))?;
     listing_put_row::put_row(profile, t, s, name, content)
 }

@@ -3,11 +3,11 @@
 
 ghost use Rattle.std.specs.Prelude.{◌≡◌, List, [], ◌∷◌, ℕ};
 ghost use Rattle.listing.specs.Words.{Words, words};
-ghost use Rattle.listing.specs.Entries.{type_in, one_each, entry_of, root_as};
+ghost use Rattle.listing.specs.Entries.{Said as Typed, type_in, one_each, entry_of, root_as};
 ghost use Rattle.listing_keywords.specs.Found.{Found};
-ghost use Rattle.listing_keywords.specs.Entries.{said_of, held_of, root_due};
+ghost use Rattle.listing_keywords.specs.Entries.{type_due, held_of, root_due};
 
-use listing_keywords::{Hit, Kind};
+use listing_keywords::{Hit, Kind, Said};
 
 // A file by the values of its size and its digest.
 fn content_of(size: &[u8], digest: &[u8]) -> Result<[u32; 11], u32>
@@ -38,8 +38,8 @@ fn file_of(size: Hit<'_>, digest: Hit<'_>) -> Result<[u32; 11], u32>
 }
 
 // What the words that are left of a line make of an entry, with the default in force: size and digest of a folder are not read.
-pub fn entry_of(rest: &[u8], default: Option<Kind>) -> Result<[u32; 11], u32>
-    ensures { result ≡ held_of (entry_of (said_of default) (words rest.now)) }
+pub fn entry_of(rest: &[u8], default: Said) -> Result<[u32; 11], u32>
+    ensures { (d : Typed) → default ≡ type_due d → result ≡ held_of (entry_of d (words rest.now)) }
 {
     let h = listing_keywords::find_keys(rest);
     match listing_keywords::type_by(h.kind, default)? {
@@ -50,8 +50,8 @@ pub fn entry_of(rest: &[u8], default: Option<Kind>) -> Result<[u32; 11], u32>
 }
 
 // Whether the words that are left of the root's line make it a folder.
-pub fn root_of(rest: &[u8], default: Option<Kind>) -> Result<(), u32>
-    ensures { result ≡ root_due (root_as (type_in (said_of default) (words rest.now))) }
+pub fn root_of(rest: &[u8], default: Said) -> Result<(), u32>
+    ensures { (d : Typed) → default ≡ type_due d → result ≡ root_due (root_as (type_in d (words rest.now))) }
 {
     match listing_keywords::type_in(rest, default)? {
         Some(Kind::Dir) => Ok(()),

@@ -11,11 +11,12 @@ use Rattle.listing.specs.Entries.{Said, Said.none, Said.is_dir, Said.is_file, Sa
 use Rattle.listing_values.specs.Values.{IsSize, IsDigest}
 use Rattle.listing_values.specs.declared.Size.{Size}
 use Rattle.listing_keywords.specs.Found.{times, Found}
-use Rattle.listing_keywords.specs.Entries.{held_of, type_due}
+use Rattle.listing_keywords.specs.Entries.{said_of, held_of, type_due}
 use Rattle.listing.specs.Values.{is_size, is_digest}
-use Rattle.std.specs.Prelude.{Some, None, Ok, Err, replicate}
+use Rattle.std.specs.Prelude.{Option, Some, None, Ok, Err, replicate}
 use Rattle.tree.proofs.Never.{never}
 use Rattle.listing_keywords.specs.declared.Hit.{Hit}
+use Rattle.listing_keywords.specs.declared.Kind.{Kind}
 use Rattle.listing_keywords.specs.declared.Kind.TheVariants.{Dir, File}
 use Rattle.listing_keywords.specs.declared.Hit.TheVariants.{Never, Once, More}
 
@@ -54,6 +55,12 @@ module _ (s d : List ℕ) where
       ≡ held_of (one_each (s ∷ []) (d ∷ []))
   unfolding packed
   both-good n w a b = rw (a.0, b.0, a.1, a.2, b.1)
+
+-- a default is what is due for the type that it stands for
+pub default-due : (k : Option Kind) → Ok k ≡ type_due (said_of k)
+default-due None = refl
+default-due (Some Dir) = refl
+default-due (Some File) = refl
 
 -- an entry by its type, as it is handed back
 module _ (t : Said) (ws : Words) where

@@ -4,9 +4,9 @@
 ghost use Rattle.std.specs.Prelude.{◌≡◌, List, ℕ};
 ghost use Rattle.listing.specs.Words.{Words, words, values};
 ghost use Rattle.listing.specs.Reading.{is_empty};
-ghost use Rattle.listing.specs.Entries.{type_of, one_type, type_in};
+ghost use Rattle.listing.specs.Entries.{Said as Typed, type_of, one_type, type_in};
 ghost use Rattle.listing_keywords.specs.Found.{seen_after, noted_after, Found, AllFound};
-ghost use Rattle.listing_keywords.specs.Entries.{said_of, kind_due, type_due};
+ghost use Rattle.listing_keywords.specs.Entries.{kind_due, type_due};
 
 // What an entry is, by its type.
 #[derive(Clone, Copy)]
@@ -14,6 +14,9 @@ pub enum Kind {
     Dir,
     File,
 }
+
+// A line's type, if it says one, or the number that is due. As a default, it is what holds where the line says none.
+pub type Said = Result<Option<Kind>, u32>;
 
 // No word with a keyword, one, or more, and the first one's value.
 #[derive(Clone, Copy)]
@@ -126,19 +129,19 @@ fn type_of(value: &[u8]) -> Result<Kind, u32>
 }
 
 // A line's type, by what was found of the values of type and by the default: 10 for one that is not known, 9 for two.
-pub fn type_by(h: Hit<'_>, default: Option<Kind>) -> Result<Option<Kind>, u32>
-    ensures { (l : List ℕ) (vs : Words) → Found l vs h.entry → result ≡ type_due (one_type (said_of default) vs) }
+pub fn type_by(h: Hit<'_>, default: Said) -> Said
+    ensures { (l : List ℕ) (vs : Words) (d : Typed) → Found l vs h.entry → default ≡ type_due d → result ≡ type_due (one_type d vs) }
 {
     match h {
-        Hit::Never => Ok(default),
+        Hit::Never => default,
         Hit::Once(value) => Ok(Some(type_of(value)?)),
         Hit::More(_) => Err(9),
     }
 }
 
 // A line's type, by the words that are left of it and the default.
-pub fn type_in(rest: &[u8], default: Option<Kind>) -> Result<Option<Kind>, u32>
-    ensures { result ≡ type_due (type_in (said_of default) (words rest.now)) }
+pub fn type_in(rest: &[u8], default: Said) -> Said
+    ensures { (d : Typed) → default ≡ type_due d → result ≡ type_due (type_in d (words rest.now)) }
 {
     type_by(find_keys(rest).kind, default)
 }

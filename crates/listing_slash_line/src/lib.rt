@@ -17,7 +17,7 @@ fn set_line(rest: &[u8], s: Reader) -> Result<Reader, u32>
     if !listing_keywords::lacks(rest, b"sha256digest") {
         return Err(9);
     }
-    match listing_keywords::type_in(rest, None)? {
+    match listing_keywords::type_in(rest, Ok(None))? {
         None => Ok(s),
         Some(kind) => Ok(s.with_default(Some(kind))),
     }

@@ -4,4 +4,4 @@ use Rattle.listing_keywords.proofs.type_in.Goals as goal
 
 pub returns : goal.returns
 unfolding type_in
-returns c = c.type_by.ensures _ _ c.find_keys.ensures.kind
+returns c = λ d e. c.type_by.ensures _ _ d c.find_keys.ensures.kind e
