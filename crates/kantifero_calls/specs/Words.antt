@@ -23,6 +23,10 @@ answer_words a = eight (number_of a) (side_of a) (place_of a)
 abbrev pub check_words : Profile → List ℕ → List ℕ
 check_words p t = answer_words (check_due p t)
 
+-- three words, four counts and 0
+abbrev pub counted : ℕ → ℕ → ℕ → Counts → List ℕ
+counted number side place n = number ∷ side ∷ place ∷ n.archive ∷ n.left ∷ n.right ∷ n.list ∷ 0 ∷ []
+
 -- words 3 to 6 are the rows of the new archive, left and right, and the list's entries
 abbrev pub reconciled_words : Reconciled → List ℕ
 reconciled_words (Ok n) = 0 ∷ 0 ∷ 0 ∷ n.archive ∷ n.left ∷ n.right ∷ n.list ∷ 0 ∷ []

@@ -3,10 +3,10 @@
 
 ghost use Rattle.std.specs.Prelude.{◌≡◌, ◌<◌};
 ghost use Rattle.table_rules.specs.Answer.{place_of};
-ghost use Rattle.kantifero_calls.specs.Words.{profile_of, eight, answer_words, reconciled_words, Narrow};
+ghost use Rattle.kantifero_calls.specs.Words.{profile_of, eight, counted, answer_words, reconciled_words, NarrowCounts, Narrow};
 ghost use Rattle.kantifero_calls.specs.Carried.{part_words, Within};
 
-use plan_run::Reconciled;
+use plan_run::{Counts, Reconciled};
 use table_rules::{Answer, Refusal};
 use tree::Profile;
 
@@ -54,22 +54,30 @@ pub fn answer_words(a: Answer) -> [u32; 8]
     }
 }
 
+// The words of a number, a side, a place and four counts.
+pub fn counted_words(number: u32, side: u32, place: usize, n: Counts) -> [u32; 8]
+    requires { NarrowCounts n × (place < 4294967296) }
+    ensures { result ≡ counted number side place n }
+{
+    [
+        number,
+        side,
+        narrow(place),
+        narrow(n.archive),
+        narrow(n.left),
+        narrow(n.right),
+        narrow(n.list),
+        0,
+    ]
+}
+
 // The words of a reconciliation's answer.
 pub fn reconciled_words(a: Reconciled) -> [u32; 8]
     requires { Narrow a }
     ensures { result ≡ reconciled_words a }
 {
     match a {
-        Ok(n) => [
-            0,
-            0,
-            0,
-            narrow(n.archive),
-            narrow(n.left),
-            narrow(n.right),
-            narrow(n.list),
-            0,
-        ],
+        Ok(n) => counted_words(0, 0, 0, n),
         Err(refusal) => refusal_words(refusal),
     }
 }

@@ -39,7 +39,30 @@ fn by_source<const ROOM: usize>(
     )
 }
 
-// A move with letter case ignored, with each table's keys made in so many words.
+// A move by the target's keys, once they are made, and a path of keys. The source's are made in one of three sizes, by the rows
+// of both tables.
+pub fn carry_keyed(
+    target: &[u32],
+    keys: &[u32],
+    source: &[u32],
+    names: [[u32; 8]; 16],
+    depth: usize,
+    res: &mut [u32],
+) -> Answer
+    requires { ByKeys target.now keys.now source.now names depth }
+    ensures { CarriedOut Folded target.now source.now names depth res.old res.new result }
+{
+    let n = target.len() / 20 + source.len() / 20;
+    if n <= 64 {
+        return by_source::<1280>(target, keys, source, names, depth, res);
+    }
+    if n <= 512 {
+        return by_source::<10240>(target, keys, source, names, depth, res);
+    }
+    by_source::<81920>(target, keys, source, names, depth, res)
+}
+
+// A move with letter case ignored, with the target's keys made in so many words.
 #[inline(never)]
 fn by_keys<const ROOM: usize>(
     target: &[u32],
@@ -49,14 +72,14 @@ fn by_keys<const ROOM: usize>(
     res: &mut [u32],
 ) -> Answer
     requires passes { Passes Folded target.now × Passes Folded source.now × (1 ≤ depth) × (depth ≤ 16) }
-    requires room { (length target.now ≤ ROOM) × (length source.now ≤ ROOM) }
+    requires room { length target.now ≤ ROOM }
     requires most { ROOM ≤ 81920 }
     ensures { CarriedOut Folded target.now source.now names depth res.old res.new result }
 {
     let mut made = [0u32; ROOM];
     table_keys::key_table(target, &mut made);
     let keys = &made[..target.len()];
-    by_source::<ROOM>(
+    carry_keyed(
         target,
         keys,
         source,
@@ -66,8 +89,8 @@ fn by_keys<const ROOM: usize>(
     )
 }
 
-// A move with letter case ignored. Keys are made in one of three sizes: zeroing the largest would be most of the time of small
-// tables.
+// A move with letter case ignored. The target's keys are made in one of three sizes too: zeroing the largest would be most of the
+// time of small tables.
 pub fn carry_folded(
     target: &[u32],
     source: &[u32],
